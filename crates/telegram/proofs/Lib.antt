@@ -1,0 +1,4 @@
+mod Bytes
+mod Entries
+mod Sound
+mod Orders

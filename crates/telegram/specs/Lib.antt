@@ -1,0 +1,5 @@
+pub mod Refusals
+pub mod Decode
+pub mod Records
+pub mod Whole
+pub mod Laws

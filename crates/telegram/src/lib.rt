@@ -1,0 +1,20 @@
+mod fields;
+mod laws;
+mod list;
+mod reader;
+mod record;
+mod refusal;
+mod whole;
+
+pub use laws::decoding_goes_forward;
+pub use laws::decoding_is_local;
+pub use laws::records_are_sound;
+pub use laws::refusals_are_placed;
+pub use laws::telegrams_are_whole;
+pub use list::CellList;
+pub use reader::Reader;
+pub use record::Record;
+pub use refusal::Refusal;
+pub use refusal::RefusalFromList;
+pub use refusal::Refused;
+pub use whole::decode;
