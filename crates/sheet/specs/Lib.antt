@@ -1,3 +1,4 @@
 pub mod Bytes
+pub mod Ends
 pub mod Lines
 pub mod Words

@@ -1,6 +1,7 @@
 //! Cuts a line into its words.
 ghost use mathlib.Core.Path.{_≡_};
 ghost use Rattle.std.specs.Options.{mapped};
+ghost use Rattle.sheet.specs.Ends.{stripped, withoutEnd};
 ghost use Rattle.sheet.specs.Words.{isBlank, isComment, uncommented, trimmed, wordLength, plainWords, firstOf, restOf};
 
 /// The words that are still to come in a text that has no comment.
@@ -26,6 +27,26 @@ impl<'a> Words<'a> {
         let (word, rest) = text.split_at(word_len(text));
         self.rest = rest;
         if word.is_empty() { None } else { Some(word) }
+    }
+}
+
+/// The text without its last byte, if that is `byte`.
+fn strip_last(text: &[u8], byte: u8) -> Option<&[u8]>
+    ensures { λ r. ⌜ mapped now r ≡ stripped byte (now (text .entry)) ⌝ }
+{
+    let [front @ .., last] = text else {
+        return None;
+    };
+    if *last == byte { Some(front) } else { None }
+}
+
+/// The line without its line feed, and without a carriage return before that.
+pub fn without_end(line: &[u8]) -> &[u8]
+    ensures { λ r. ⌜ now r ≡ withoutEnd (now (line .entry)) ⌝ }
+{
+    match strip_last(line, b'\n') {
+        Some(text) => strip_last(text, b'\r').unwrap_or(text),
+        None => line,
     }
 }
 

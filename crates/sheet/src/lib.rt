@@ -17,6 +17,8 @@ use std::alloc::Refused;
 mod hex;
 mod lexer;
 
+pub use lexer::without_end;
+
 /// One line of a run sheet, as understood.
 #[derive(Debug, Drop, PartialEq)]
 pub enum Line {

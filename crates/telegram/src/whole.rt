@@ -1,5 +1,7 @@
 ghost use mathlib.Core.List.{map};
 ghost use mathlib.Core.Path.{_≡_};
+ghost use Prim.Native.Nat.{_≤_};
+ghost use Rattle.std.specs.Vec.{made};
 ghost use Rattle.order.specs.Orders.{stockOrder};
 ghost use Rattle.telegram.specs.Decode.{placeAfter};
 ghost use Rattle.telegram.specs.Records.{seenBy};
@@ -22,6 +24,7 @@ fn next_order(reader: &mut Reader) -> Result<Order, Refused>
 
 // Decodes a whole telegram into the first places of the table, and answers how many orders it has.
 pub fn decode(bytes: &[u8], orders: &mut [Order; 64]) -> Result<usize, Refused>
+    ensures few { λ r. ⌜ made r (λ n. n ≤ 64) ⌝ }
     ensures answer { λ r. ⌜ r ≡ counted (ordersOf (now (bytes .entry))) ⌝ }
     ensures table { λ _. ⌜ map stockOrder (now (orders .exit)) ≡ tabled (ordersOf (now (bytes .entry))) (map stockOrder (now (orders .entry))) ⌝ }
 {
