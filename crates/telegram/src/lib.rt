@@ -1,3 +1,4 @@
+//! The order telegram: how its bytes are read, and what they say.
 mod fields;
 mod laws;
 mod list;
@@ -15,6 +16,10 @@ pub use list::CellList;
 pub use reader::Reader;
 pub use record::Record;
 pub use refusal::Refusal;
+pub use refusal::RefusalDebug;
 pub use refusal::RefusalFromList;
+pub use refusal::RefusalPartialEq;
 pub use refusal::Refused;
+pub use refusal::RefusedDebug;
+pub use refusal::RefusedPartialEq;
 pub use whole::decode;
