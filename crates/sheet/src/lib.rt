@@ -10,7 +10,6 @@ ghost use Rattle.sheet.specs.Words.{plainWords, BlanksPart, CommentsDropped};
 use hex::hex_byte;
 use lexer::Words;
 use lexer::before_comment;
-use std::alloc::AllocError;
 use std::alloc::Global;
 use std::alloc::Refused;
 
@@ -35,14 +34,6 @@ pub enum LineError {
     NotUnderstood,
     /// Memory for what the line says was not to be had.
     NoMemory,
-}
-
-pub impl From<AllocError> for LineError as LineErrorFromAlloc {
-    ghost converts = { λ _ r. r ≡ NoMemory };
-
-    fn from(_e: AllocError) -> LineError {
-        LineError::NoMemory
-    }
 }
 
 pub impl<T: Drop> From<Refused<T>> for LineError as LineErrorFromRefused {

@@ -21,17 +21,13 @@ impl Cells {
     pub fn from_slice(cells: &[u16]) -> Result<Cells, ListRefusal>
         ensures { λ r. ⌜ heldCells r ≡ gathered [] (now (cells .entry)) ⌝ }
     {
-        let mut list = Cells::new();
-        for cell in cells {
-            list.push(*cell)?;
-        }
-        Ok(list)
+        extended(Cells::new(), cells)
     }
 
     pub fn len(&self) -> usize
         ensures { λ r. ⌜ r ≡ length (listed (now (self .entry))) ⌝ }
     {
-        self.count
+        self.as_slice().len()
     }
 
     pub fn as_slice(&self) -> &[u16]
@@ -44,7 +40,7 @@ impl Cells {
     pub fn contains(&self, cell: u16) -> bool
         ensures { λ r. ⌜ r ≡ has (listed (now (self .entry))) cell ⌝ }
     {
-        self.as_slice().contains(&cell)
+        holds(self.as_slice(), cell)
     }
 
     // One cell more, as the last.
@@ -63,4 +59,19 @@ impl Cells {
         self.count = count + 1;
         Ok(())
     }
+}
+
+fn holds(cells: &[u16], cell: u16) -> bool
+    ensures { λ r. ⌜ r ≡ has (now (cells .entry)) cell ⌝ }
+{
+    cells.contains(&cell)
+}
+
+fn extended(mut list: Cells, cells: &[u16]) -> Result<Cells, ListRefusal>
+    ensures { λ r. ⌜ heldCells r ≡ gathered (listed list) (now (cells .entry)) ⌝ }
+{
+    for cell in cells {
+        list.push(*cell)?;
+    }
+    Ok(list)
 }

@@ -1,10 +1,9 @@
 use mathlib.Core.Path.{_≡_}
-use mathlib.Core.List.{[]}
 use lib.ListN.{drop}
 use Rattle.order.specs.Orders.{listed}
 use Rattle.order.specs.Refusals.{gathered}
-use Rattle.order.proofs.cells.Cells.from_slice.Given as given
+use Rattle.order.proofs.cells.methods.extended.Given as given
 
 -- what is left to add gives the whole
 abbrev pub Inv-loop-cell : given.InvT-loop-cell
-Inv-loop-cell l = gathered (listed (l .list)) (drop (l .cell-index) (l .cells)) ≡ gathered [] (l .cells)
+Inv-loop-cell l = gathered (listed (l .list)) (drop (l .cell-index) (l .cells)) ≡ gathered (listed (l .entry .list)) (l .cells)

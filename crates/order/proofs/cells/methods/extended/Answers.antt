@@ -2,7 +2,7 @@ use native.Mathlib.Omega.{arith}
 use Rattle.std.proofs.shelf.Results.{err-from-errBy}
 use Rattle.order.specs.Orders.{listed}
 use Rattle.order.proofs.Gather.{gathered-again, gathered-refused, gathered-all}
-use Rattle.order.proofs.cells.Cells.from_slice.Needs as need
+use Rattle.order.proofs.cells.methods.extended.Needs as need
 
 pub returns-in-Break-push : need.returns-in-Break-push
 returns-in-Break-push c =
