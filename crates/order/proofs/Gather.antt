@@ -17,19 +17,30 @@ use Rattle.order.specs.Cells.{has, different}
 use Rattle.order.proofs.Lists.{lacks-middle}
 use Rattle.order.specs.Refusals.{addition, added, andThen, gathered}
 
--- what was not refused stands last
-pub added-last : (xs : List ℕ) (c : ℕ) → Ok tt ≡ addition xs c → added xs c ≡ xs ++ (c ∷ [])
-added-last xs c e = by-cases (leb 8 (length xs)) (has xs c) e
+-- a cell that was taken was not there before, and stands last
+pub taken : (xs : List ℕ) (c : ℕ) → Ok tt ≡ addition xs c → (has xs c ≡ false) × (added xs c ≡ xs ++ (c ∷ []))
+taken xs c e = by-cases (leb 8 (length xs)) (has xs c) e
   where
-    by-cases : (a b : Bool) → Ok (tt {0}) ≡ cond a (Err TooMany) (cond b (Err Repeated) (Ok (tt {0}))) → cond a xs (cond b xs (xs ++ (c ∷ []))) ≡ xs ++ (c ∷ [])
+    by-cases : (a b : Bool) → Ok (tt {0}) ≡ cond a (Err TooMany) (cond b (Err Repeated) (Ok (tt {0}))) → (b ≡ false) × (cond a xs (cond b xs (xs ++ (c ∷ []))) ≡ xs ++ (c ∷ []))
     by-cases true b e = let z : _≡_ {A = ℕ} 0 1 = cc in absurd (omega arith)
     by-cases false true e = let z : _≡_ {A = ℕ} 0 1 = cc in absurd (omega arith)
-    by-cases false false e = refl
+    by-cases false false e = (refl, refl)
+
+-- a list that has room refuses a cell only where it has it
+pub repeated : (xs : List ℕ) (c : ℕ) (e : ListRefusal) → length xs < 8 → Err e ≡ addition xs c → (has xs c ≡ true) × (e ≡ Repeated)
+repeated xs c e l h =
+    let room : leb 8 (length xs) ≡ false = grind (arith, tells) in
+    by-cases (leb 8 (length xs)) (has xs c) room h
+  where
+    by-cases : (a b : Bool) → a ≡ false → _≡_ {A = Result (Unit {0}) ListRefusal} (Err e) (cond a (Err TooMany) (cond b (Err Repeated) (Ok (tt {0})))) → (b ≡ true) × (e ≡ Repeated)
+    by-cases true b r h = let z : _≡_ {A = ℕ} 0 1 = cc in absurd (omega arith)
+    by-cases false true r h = (refl, cc)
+    by-cases false false r h = let z : _≡_ {A = ℕ} 0 1 = cc in absurd (omega arith)
 
 -- one cell more is taken
 pub gathered-more : (before after : List ℕ) (c : ℕ) (cs : List ℕ) → Ok tt ≡ addition before c → after ≡ added before c → gathered before (c ∷ cs) ≡ gathered after cs
 gathered-more before after c cs e a =
-    ap (λ (r : Result (Unit {0}) ListRefusal). andThen r (gathered (before ++ (c ∷ [])) cs)) (sym e) ∙ ap (λ (l : List ℕ). gathered l cs) (sym (a ∙ added-last before c e))
+    ap (λ (r : Result (Unit {0}) ListRefusal). andThen r (gathered (before ++ (c ∷ [])) cs)) (sym e) ∙ ap (λ (l : List ℕ). gathered l cs) (sym (a ∙ taken before c e .1))
 
 -- or refused
 pub gathered-stop : (before : List ℕ) (c : ℕ) (cs : List ℕ) (e : ListRefusal) → Err e ≡ addition before c → gathered before (c ∷ cs) ≡ Err e

@@ -6,7 +6,7 @@ ghost use Rattle.order.specs.Cells.{different};
 
 mod methods;
 
-// A read list or a write list: at most eight cells, all different.
+/// A read list or a write list: at most eight cells, all different.
 #[derive(Clone, Copy, Debug)]
 pub struct Cells {
     items: [u16; 8],

@@ -1,7 +1,7 @@
 ghost use mathlib.Core.Path.{_≡_};
 ghost use Rattle.order.specs.Refusals.{numberOf};
 
-// Why a list takes no further cell.
+/// Why a list takes no further cell.
 #[derive(Clone, Copy, Debug, PartialEq, Eq)]
 pub enum ListRefusal {
     TooMany,

@@ -4,7 +4,7 @@ use super::cells::CellsDebug;
 
 mod methods;
 
-// A stock order: what kind of work on which cells. The class is 0 to 7.
+/// A stock order: what kind of work on which cells. The class is 0 to 7.
 #[derive(Clone, Copy, Debug)]
 pub struct Order {
     pub class: u8,

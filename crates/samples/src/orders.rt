@@ -57,7 +57,7 @@ fn numbers_of_list_refusals() -> Result<(), Fail> {
     check_eq(Refusal::from(ListRefusal::Repeated).number(), 7)
 }
 
-// What becomes of a record that no reader made.
+/// What becomes of a record that no reader made.
 fn order_refusal<'a>(class: u8, reads: &'a [u8], writes: &'a [u8]) -> Option<Refusal> {
     let reads = CellList {
         entries: reads,

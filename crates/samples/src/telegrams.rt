@@ -8,7 +8,7 @@ use telegram::RefusedDebug;
 use telegram::RefusedPartialEq;
 use telegram::decode;
 
-// The telegram is refused with the number at the place, and the table keeps what it held.
+/// The telegram is refused with the number at the place, and the table keeps what it held.
 fn refuses(bytes: &[u8], number: u8, place: usize) -> Result<(), Fail> {
     let mut mark = Order::plain();
     mark.argument = 77;
@@ -63,7 +63,7 @@ fn a_cell_twice() -> Result<(), Fail> {
     refuses(&[0x01, 0x18, 1, 0, 1, 2, 0, 2, 0, 2], 7, 8)
 }
 
-// Sixty-four records of one map byte, and then the bytes of `tail`.
+/// A count byte, 63 records of one map byte, and then the bytes of `tail`.
 fn long_telegram(rt: &LibcRuntime, count: u8, tail: &[u8]) -> Result<Vec<u8>, Fail> {
     let mut bytes = Vec::new(rt.alloc());
     bytes.push(count)?;

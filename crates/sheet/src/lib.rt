@@ -19,7 +19,7 @@ mod lexer;
 pub use lexer::without_end;
 
 /// One line of a run sheet, as understood.
-#[derive(Debug, Drop, PartialEq)]
+#[derive(Drop)]
 pub enum Line {
     /// No word stands in the line.
     Empty,
@@ -28,7 +28,7 @@ pub enum Line {
 }
 
 /// Why a line was not read.
-#[derive(Clone, Copy, Debug, PartialEq, Eq)]
+#[derive(Clone, Copy, Debug)]
 pub enum LineError {
     /// The line is none that a run sheet has.
     NotUnderstood,

@@ -9,18 +9,10 @@ use lib.Dec.{leb}
 use lib.ListN.{length, getD, take, drop}
 use lib.Seq.{getD-drop}
 use Rattle.std.proofs.shelf.Lists.{take-more, append-assoc, length-take-le, length-drop, length-push}
-use Rattle.std.proofs.shelf.Ways.{tells}
-use Rattle.std.specs.declared.result.Result.{Result}
-use Rattle.std.specs.declared.result.Result.the-variants.{Ok, Err}
-use Rattle.order.specs.declared.refusal.ListRefusal.{ListRefusal}
-use Rattle.order.specs.declared.refusal.ListRefusal.the-variants.{TooMany, Repeated}
 use Rattle.order.specs.Cells.{has}
-use Rattle.order.specs.Refusals.{addition, added}
-use Rattle.order.proofs.Gather.{added-last}
 use Rattle.telegram.specs.declared.refusal.Refusal.{Refusal}
 use Rattle.telegram.specs.declared.refusal.Refusal.the-variants.{EndsEarly, RepeatedCell}
 use Rattle.telegram.specs.Decode.{Read, got, refused, next, within, cellAt, cellsOf, entriesAt}
-use Rattle.telegram.specs.Refusals.{fromList}
 
 -- what bytes that were read tell
 pub within-tells : {V : Type 0} (t : List ℕ) (p n q : ℕ) (v w : V) → got v q ≡ within t p n w → (p + n ≤ length t) × (q ≡ p + n) × (v ≡ w)
@@ -60,46 +52,30 @@ part-more t from k p q c before after e g b a =
     let s : q - from ≡ i + 2 = omega (arith, w .1) in
     a ∙ (ap (λ (x : List ℕ). x ++ (c ∷ [])) b ∙ (ap (λ n. cellsOf (take i l) ++ (n ∷ [])) (sym v) ∙ (sym m ∙ ap (λ n. cellsOf (take n l)) (sym s))))
 
--- a list that has room refuses a cell only where it has it
-pub repeated : (xs : List ℕ) (c : ℕ) (e : ListRefusal) → length xs < 8 → Err e ≡ addition xs c → (has xs c ≡ true) × (e ≡ Repeated)
-repeated xs c e l h =
-    let room : leb 8 (length xs) ≡ false = grind (arith, tells) in
-    by-cases (leb 8 (length xs)) (has xs c) room h
-  where
-    by-cases : (a b : Bool) → a ≡ false → _≡_ {A = Result (Unit {0}) ListRefusal} (Err e) (cond a (Err TooMany) (cond b (Err Repeated) (Ok (tt {0})))) → (b ≡ true) × (e ≡ Repeated)
-    by-cases true b r h = let z : _≡_ {A = ℕ} 0 1 = cc in absurd (omega arith)
-    by-cases false true r h = (refl, cc)
-    by-cases false false r h = let z : _≡_ {A = ℕ} 0 1 = cc in absurd (omega arith)
+-- what becomes of the next entry: n more follow it
+abbrev entry : ℕ → List ℕ → List ℕ → ℕ → ℕ → ℕ → Read (List ℕ)
+entry n before t p c q = cond (has before c) (refused RepeatedCell p) (entriesAt n (before ++ (c ∷ [])) t q)
 
--- the next entry is cut off
+-- it is cut off
 pub entries-cut : (n : ℕ) (before t : List ℕ) (p r : ℕ) (e : Refusal) (d : Read (List ℕ)) → length before < n → refused e r ≡ cellAt t p
     → entriesAt (n - length before) before t p ≡ d → d ≡ refused e r
 entries-cut n before t p r e d l c i =
     let s : n - length before ≡ suc (n - (length before + 1)) = omega arith in
-    sym (rw s at i) ∙ ap (λ (x : Read ℕ). next x (λ c q. cond (has before c) (refused RepeatedCell p) (entriesAt (n - (length before + 1)) (before ++ (c ∷ [])) t q))) (sym c)
+    sym (rw s at i) ∙ ap (λ (x : Read ℕ). next x (entry (n - (length before + 1)) before t p)) (sym c)
 
 -- or repeats a cell
 pub entries-repeat : (n : ℕ) (before t : List ℕ) (p q c : ℕ) (d : Read (List ℕ)) → length before < n → got c q ≡ cellAt t p → has before c ≡ true
     → entriesAt (n - length before) before t p ≡ d → d ≡ refused RepeatedCell p
 entries-repeat n before t p q c d l g h i =
     let s : n - length before ≡ suc (n - (length before + 1)) = omega arith in
-    sym (rw s at i) ∙ (ap (λ (x : Read ℕ). next x (λ c q. cond (has before c) (refused RepeatedCell p) (entriesAt (n - (length before + 1)) (before ++ (c ∷ [])) t q))) (sym g) ∙ rw h)
+    sym (rw s at i) ∙ (ap (λ (x : Read ℕ). next x (entry (n - (length before + 1)) before t p)) (sym g) ∙ rw h)
 
 -- or is taken
 pub entries-more : (n : ℕ) (before after t : List ℕ) (p q c : ℕ) (d : Read (List ℕ)) → length before < n → got c q ≡ cellAt t p → has before c ≡ false → after ≡ before ++ (c ∷ [])
     → entriesAt (n - length before) before t p ≡ d → entriesAt (n - length after) after t q ≡ d
 entries-more n before after t p q c d l g h a i =
-    let s : n - length before ≡ suc (n - (length before + 1)) = omega arith in
+    let k = n - (length before + 1) in
+    let s : n - length before ≡ suc k = omega arith in
     let m : length after ≡ length before + 1 = ap length a ∙ length-push before c in
-    let step : next (cellAt t p) (λ c q. cond (has before c) (refused RepeatedCell p) (entriesAt (n - (length before + 1)) (before ++ (c ∷ [])) t q)) ≡ entriesAt (n - (length before + 1)) (before ++ (c ∷ [])) t q =
-    ap (λ (x : Read ℕ). next x (λ c q. cond (has before c) (refused RepeatedCell p) (entriesAt (n - (length before + 1)) (before ++ (c ∷ [])) t q))) (sym g) ∙ rw h in
+    let step : next (cellAt t p) (entry k before t p) ≡ entriesAt k (before ++ (c ∷ [])) t q = ap (λ (x : Read ℕ). next x (entry k before t p)) (sym g) ∙ rw h in
     rw (m, a) (sym step ∙ (rw s at i))
-
--- a cell that was taken was not there
-pub taken-lacks : (xs : List ℕ) (c : ℕ) → Ok tt ≡ addition xs c → has xs c ≡ false
-taken-lacks xs c e = by-cases (leb 8 (length xs)) (has xs c) e
-  where
-    by-cases : (a b : Bool) → Ok (tt {0}) ≡ cond a (Err TooMany) (cond b (Err Repeated) (Ok (tt {0}))) → b ≡ false
-    by-cases true b e = let z : _≡_ {A = ℕ} 0 1 = cc in absurd (omega arith)
-    by-cases false true e = let z : _≡_ {A = ℕ} 0 1 = cc in absurd (omega arith)
-    by-cases false false e = refl

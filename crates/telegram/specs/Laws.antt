@@ -7,7 +7,9 @@ use lib.ListN.{length, getD}
 use Rattle.std.specs.shelf.Lists.{All}
 use Rattle.order.specs.Cells.{different}
 use Rattle.telegram.specs.declared.refusal.Refusal.{Refusal}
-use Rattle.telegram.specs.Refusals.{numberOf}
+use Rattle.order.specs.declared.refusal.ListRefusal.{ListRefusal}
+use Rattle.order.specs.Refusals.{numberOf as listNumberOf}
+use Rattle.telegram.specs.Refusals.{numberOf, fromList}
 use Rattle.telegram.specs.Decode.{got, refused, DecodedList, DecodedOrder, recordAt, telegramOf}
 
 -- a record takes at least one byte, and none past the telegram's end
@@ -45,3 +47,7 @@ abbrev pub TelegramsAreWhole : Type 0
 TelegramsAreWhole =
     ((t : List ℕ) (q : ℕ) (ds : List DecodedOrder) → telegramOf t ≡ got ds q → (length ds ≤ 64) × All SoundOrder ds × (q ≡ length t))
     × ((t : List ℕ) (r : ℕ) (e : Refusal) → telegramOf t ≡ refused e r → Placed t 0 e r)
+
+-- a list's refusal keeps its number as the telegram's
+abbrev pub NumbersAgree : Type 0
+NumbersAgree = (e : ListRefusal) → numberOf (fromList e) ≡ listNumberOf e

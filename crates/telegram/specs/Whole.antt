@@ -24,3 +24,8 @@ counted (refused e p) = Err (record { refusal = e; place = p })
 abbrev pub tabled : Read (List StockOrder) → List StockOrder → List StockOrder
 tabled (got os q) old = os ++ drop (length os) old
 tabled (refused e p) old = old
+
+-- how many places of the table an answer fills: none where the telegram is refused
+abbrev pub filled : Result ℕ Refused → ℕ
+filled (Ok n) = n
+filled (Err e) = 0

@@ -131,7 +131,7 @@ fn argument_field(bytes: &[u8], map: u8, place: &mut usize) -> Result<u32, Refus
     }
 }
 
-// The entries of a list. A repeated cell is refused as soon as both its bytes have come.
+/// The entries of a list. A repeated cell is refused as soon as both its bytes have come.
 fn entries<'a>(bytes: &'a [u8], count: u8, place: &mut usize) -> Result<CellList<'a>, Refused>
     requires { ⌜ now place ≤ length (now bytes) ⌝ ∗ ⌜ count ≤ 8 ⌝ }
     ensures inside { λ _. ⌜ now (place .exit) ≤ length (now (bytes .entry)) ⌝ }

@@ -1,4 +1,4 @@
-ghost use Rattle.telegram.specs.Laws.{DecodingGoesForward, DecodingIsLocal, RecordsAreSound, RefusalsArePlaced, TelegramsAreWhole};
+ghost use Rattle.telegram.specs.Laws.{DecodingGoesForward, DecodingIsLocal, RecordsAreSound, RefusalsArePlaced, TelegramsAreWhole, NumbersAgree};
 
 pub fn decoding_goes_forward()
     ensures { λ _. ⌜ DecodingGoesForward ⌝ }
@@ -18,4 +18,8 @@ pub fn refusals_are_placed()
 
 pub fn telegrams_are_whole()
     ensures { λ _. ⌜ TelegramsAreWhole ⌝ }
+{}
+
+pub fn numbers_agree()
+    ensures { λ _. ⌜ NumbersAgree ⌝ }
 {}

@@ -9,6 +9,7 @@ mod whole;
 
 pub use laws::decoding_goes_forward;
 pub use laws::decoding_is_local;
+pub use laws::numbers_agree;
 pub use laws::records_are_sound;
 pub use laws::refusals_are_placed;
 pub use laws::telegrams_are_whole;

@@ -6,7 +6,7 @@ ghost use Rattle.telegram.specs.Decode.{cellsOf};
 use order::Cells;
 use order::ListRefusal;
 
-// A list as a part of the telegram: its entries, two bytes a cell, and the place of the first.
+/// A list as a part of the telegram: its entries, two bytes a cell, and the place of the first.
 #[derive(Clone, Copy)]
 pub struct CellList<'a> {
     pub entries: &'a [u8],
@@ -14,7 +14,7 @@ pub struct CellList<'a> {
 }
 
 impl CellList<'_> {
-    // The cells of the entries, refused as `Cells` refuses them.
+    /// The cells of the entries, refused as `Cells` refuses them.
     pub fn cells(&self) -> Result<Cells, ListRefusal>
         ensures { λ r. ⌜ heldCells r ≡ gathered [] (cellsOf (now (now (self .entry) .entries))) ⌝ }
     {

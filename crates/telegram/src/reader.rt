@@ -3,7 +3,7 @@ ghost use lib.ListN.{length};
 
 mod methods;
 
-// Reads a telegram from its start on; the place is the number of the next byte.
+/// Reads a telegram from its start on; the place is the number of the next byte.
 #[derive(Clone, Copy)]
 pub struct Reader<'a> {
     bytes: &'a [u8],

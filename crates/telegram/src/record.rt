@@ -5,7 +5,7 @@ use super::refusal::Refusal;
 use super::refusal::RefusalFromList;
 use order::Order;
 
-// One order of a telegram, with its lists as parts of the telegram.
+/// One order of a telegram, with its lists as parts of the telegram.
 #[derive(Clone, Copy)]
 pub struct Record<'a> {
     pub class: u8,
@@ -16,7 +16,7 @@ pub struct Record<'a> {
 }
 
 impl Record<'_> {
-    // The order by itself. No record that a reader accepts is refused here.
+    /// The order by itself. No record that a reader accepts is refused here.
     pub fn order(&self) -> Result<Order, Refusal>
         ensures { λ r. ⌜ heldOrder r ≡ orderIn (decoded (now (self .entry))) ⌝ }
     {

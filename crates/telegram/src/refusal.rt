@@ -2,7 +2,7 @@ ghost use mathlib.Core.Path.{_≡_};
 ghost use Rattle.telegram.specs.Refusals.{numberOf, fromList};
 use order::ListRefusal;
 
-// Why a telegram is refused.
+/// Why a telegram is refused.
 #[derive(Clone, Copy, Debug, PartialEq, Eq)]
 pub enum Refusal {
     EndsEarly,
@@ -41,7 +41,7 @@ pub impl From<ListRefusal> for Refusal as RefusalFromList {
     }
 }
 
-// A refusal beside its place: the byte that offends, or the telegram's length where it ends early.
+/// A refusal beside its place: the byte that offends, or the telegram's length where it ends early.
 #[derive(Clone, Copy, Debug, PartialEq, Eq)]
 pub struct Refused {
     pub refusal: Refusal,

@@ -1,11 +1,11 @@
 ghost use mathlib.Core.List.{map};
 ghost use mathlib.Core.Path.{_≡_};
 ghost use Prim.Native.Nat.{_≤_};
+ghost use lib.ListN.{drop};
 ghost use Rattle.std.specs.Vec.{made};
 ghost use Rattle.order.specs.Orders.{stockOrder};
-ghost use Rattle.telegram.specs.Decode.{placeAfter};
 ghost use Rattle.telegram.specs.Records.{seenBy};
-ghost use Rattle.telegram.specs.Whole.{orderAt, ordersOf, counted, tabled};
+ghost use Rattle.telegram.specs.Whole.{orderAt, ordersOf, counted, tabled, filled};
 use super::reader::Reader;
 use super::refusal::Refused;
 use order::Order;
@@ -22,11 +22,12 @@ fn next_order(reader: &mut Reader) -> Result<Order, Refused>
     }
 }
 
-// Decodes a whole telegram into the first places of the table, and answers how many orders it has.
+/// Decodes a whole telegram into the first places of the table, and answers how many orders it has.
 pub fn decode(bytes: &[u8], orders: &mut [Order; 64]) -> Result<usize, Refused>
     ensures few { λ r. ⌜ made r (λ n. n ≤ 64) ⌝ }
     ensures answer { λ r. ⌜ r ≡ counted (ordersOf (now (bytes .entry))) ⌝ }
     ensures table { λ _. ⌜ map stockOrder (now (orders .exit)) ≡ tabled (ordersOf (now (bytes .entry))) (map stockOrder (now (orders .entry))) ⌝ }
+    ensures kept { λ r. ⌜ drop (filled r) (now (orders .exit)) ≡ drop (filled r) (now (orders .entry)) ⌝ }
 {
     let mut table = *orders;
     let mut reader = Reader::new(bytes);

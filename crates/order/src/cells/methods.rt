@@ -17,7 +17,7 @@ impl Cells {
         }
     }
 
-    // The cells in their order, or the refusal of the first that is not taken.
+    /// The cells in their order, or the refusal of the first that is not taken.
     pub fn from_slice(cells: &[u16]) -> Result<Cells, ListRefusal>
         ensures { λ r. ⌜ heldCells r ≡ gathered [] (now (cells .entry)) ⌝ }
     {
@@ -43,7 +43,7 @@ impl Cells {
         holds(self.as_slice(), cell)
     }
 
-    // One cell more, as the last.
+    /// One cell more, as the last.
     pub fn push(&mut self, cell: u16) -> Result<(), ListRefusal>
         ensures answer { λ r. ⌜ r ≡ addition (listed (now (self .entry))) cell ⌝ }
         ensures after { λ _. ⌜ listed (now (self .exit)) ≡ added (listed (now (self .entry))) cell ⌝ }

@@ -4,7 +4,7 @@ use super::super::cells::Cells;
 use super::Order;
 
 impl Order {
-    // An order that names no field.
+    /// An order that names no field.
     pub fn plain() -> Order
         ensures { λ r. ⌜ stockOrder r ≡ plainOrder ⌝ }
     {

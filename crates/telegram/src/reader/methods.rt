@@ -9,7 +9,7 @@ use super::super::refusal::Refusal;
 use super::super::refusal::Refused;
 use super::Reader;
 
-// Puts the reader's place back at its end, unless what was read was accepted.
+/// Puts the reader's place back at its end, unless what was read was accepted.
 struct Rewind<'r> {
     place: &'r mut usize,
     start: usize,
@@ -45,7 +45,7 @@ impl<'a> Reader<'a> {
         self.place
     }
 
-    // The count byte: how many orders the telegram has.
+    /// The count byte: how many orders the telegram has.
     pub fn count(&mut self) -> Result<u8, Refused>
         ensures same { λ _. ⌜ now (now (self .exit) .bytes) ≡ now (now (self .entry) .bytes) ⌝ }
         ensures place { λ _. ⌜ now (self .exit) .place ≡ placeAfter (now (self .entry) .place) (countAt (now (now (self .entry) .bytes)) (now (self .entry) .place)) ⌝ }
@@ -62,7 +62,7 @@ impl<'a> Reader<'a> {
         Ok(count)
     }
 
-    // The next order. Where it is refused, the place is that of its first byte again.
+    /// The next order. Where it is refused, the place is that of its first byte again.
     pub fn next_record(&mut self) -> Result<Record<'a>, Refused>
         ensures same { λ _. ⌜ now (now (self .exit) .bytes) ≡ now (now (self .entry) .bytes) ⌝ }
         ensures place { λ _. ⌜ now (self .exit) .place ≡ placeAfter (now (self .entry) .place) (recordAt (now (now (self .entry) .bytes)) (now (self .entry) .place)) ⌝ }
@@ -80,7 +80,7 @@ impl<'a> Reader<'a> {
         Ok(record)
     }
 
-    // Whether all bytes were read.
+    /// Whether all bytes were read.
     pub fn end(&self) -> Result<(), Refused>
         ensures { λ r. ⌜ seen r (now (self .entry) .place) ≡ endAt (now (now (self .entry) .bytes)) (now (self .entry) .place) ⌝ }
     {

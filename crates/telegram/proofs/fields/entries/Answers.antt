@@ -7,9 +7,9 @@ use lib.ListN.{length}
 use Rattle.std.proofs.shelf.Lists.{length-push}
 use Rattle.std.proofs.shelf.Results.{err-from-errBy}
 use Rattle.order.specs.Orders.{listed}
-use Rattle.order.proofs.Gather.{added-last}
+use Rattle.order.proofs.Gather.{taken, repeated}
 use Rattle.telegram.specs.Decode.{entriesAt}
-use Rattle.telegram.proofs.Entries.{within-tells, part-more, repeated, taken-lacks, entries-cut, entries-repeat, entries-more}
+use Rattle.telegram.proofs.Entries.{within-tells, part-more, entries-cut, entries-repeat, entries-more}
 use Rattle.telegram.proofs.fields.entries.Needs as need
 
 pub returns-in-Break-cell : need.returns-in-Break-cell
@@ -32,7 +32,7 @@ pub loop-seen-less : need.loop-seen-less
 loop-seen-less c =
     let before = listed (c .loop-seen .seen) in
     let l : length before < c .args .count = search needs in
-    let a = c .push .ensures .after ∙ added-last before (c .in-Continue-cell .cell) (c .in-rest .ensures tt .answer) in
+    let a = c .push .ensures .after ∙ taken before (c .in-Continue-cell .cell) (c .in-rest .ensures tt .answer) .1 in
     let m : length (listed (c .push .last .self)) ≡ length before + 1 = ap length a ∙ length-push before (c .in-Continue-cell .cell) in
     omega arith
 
@@ -44,7 +44,7 @@ loop-seen-again c =
     let x = c .in-Continue-cell .cell in
     let l : length before < c .args .count = search needs in
     let ok = c .in-rest .ensures tt .answer in
-    let a = c .push .ensures .after ∙ added-last before x ok in
+    let a = c .push .ensures .after ∙ taken before x ok .1 in
     let m : length (listed (c .push .last .self)) ≡ length before + 1 = ap length a ∙ length-push before x in
     let g = c .in-Continue-cell .ensures tt .value in
     let w = within-tells t (c .loop-seen .place) 2 (c .cell .last .place) x _ g in (
@@ -52,5 +52,5 @@ loop-seen-again c =
       c .cell .ensures .inside,
       omega arith,
       part-more t from (length before) (c .loop-seen .place) (c .cell .last .place) x before _ (c .loop-seen .inv .0) g (c .loop-seen .inv .3) a,
-      entries-more (c .args .count) before _ t (c .loop-seen .place) (c .cell .last .place) x _ l g (taken-lacks before x ok) a (c .loop-seen .inv .4),
+      entries-more (c .args .count) before _ t (c .loop-seen .place) (c .cell .last .place) x _ l g (taken before x ok .0) a (c .loop-seen .inv .4),
     )

@@ -1,4 +1,4 @@
-use mathlib.Core.Path.{_≡_, sym, _∙_, ap}
+use mathlib.Core.Path.{_≡_, refl, sym, _∙_, ap}
 use native.Mathlib.Omega.{arith}
 use Prim.Native.Nat.{_≤_, _<_}
 use lib.ListN.{length, length-set}
@@ -13,7 +13,7 @@ returns-in-Break-table c =
     let p = err-from-errBy (c .from-residual-in-Break-table .result) (c .from-residual-in-Break-table .ensures .1) in
     let v = rw (c .loop-k .inv .0) at (c .in-Break-table .ensures tt .value) in
     let d = table-stop (c .from-count .result) (c .loop-k .k) (c .args .bytes .now) (c .loop-k .reader .place) _ _ _ _ (c .loop-k-test .taken) v (c .loop-k .inv .3) in
-    rw (p .1, p .2) (record { few = tt; answer = sym (rw d); table = sym (rw d) })
+    rw (p .1, p .2) (record { few = tt; answer = sym (rw d); table = sym (rw d); kept = refl })
 
 pub loop-k-again : need.loop-k-again
 loop-k-again c =
@@ -35,4 +35,4 @@ returns c =
     let l : n ≤ length (c .loop-k .table) = omega (arith, c .loop-k .inv .1, c .from-count .ensures) in
     let k : c .loop-k .k ≡ n = omega arith in
     let rest = rw k at (c .loop-k .inv .2) in
-    record { few = omega (arith, c .from-count .ensures); answer = rw d (ap Ok (sym (table-count n (c .loop-k .table) l))); table = rw d (table-whole n (c .loop-k .table) (c .args .orders .now) l rest) }
+    record { few = omega (arith, c .from-count .ensures); answer = rw d (ap Ok (sym (table-count n (c .loop-k .table) l))); table = rw d (table-whole n (c .loop-k .table) (c .args .orders .now) l rest); kept = rest }
