@@ -1,7 +1,7 @@
 -- Facts on lists of cells.
-use mathlib.Core.Path.{_≡_, refl, sym, _∙_, ap}
+use mathlib.Core.Path.{_≡_, refl}
 use mathlib.Core.List.{List, [], _∷_, _++_}
-use mathlib.Core.Bool.{Bool, true, false, not, _||_, _&&_}
+use mathlib.Core.Bool.{Bool, true, false}
 use Prim.Native.Nat.{ℕ, _+_, _<_}
 use lib.Dec.{eqb, leb}
 use lib.ListN.{length, take, set}
@@ -12,7 +12,7 @@ use Rattle.std.specs.shelf.Lists.{Has}
 use Rattle.std.proofs.shelf.Elements.{has-from-contains}
 use Rattle.std.proofs.shelf.Ways.{same-from-decides, decides-eqb, decides-by-or, tells}
 use Rattle.std.proofs.shelf.Lists.{take-more-set, length-take-le}
-use Rattle.std.specs.declared.result.Result.the-variants.{Ok, Err}
+use Rattle.std.specs.declared.result.Result.the-variants.{Ok}
 use Rattle.order.specs.Cells.{has, different}
 use Rattle.order.specs.Refusals.{addition, added}
 

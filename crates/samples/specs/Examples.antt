@@ -1,8 +1,7 @@
 -- Worked examples of the definitions, in one table.
 use mathlib.Core.Path.{_≡_}
-use mathlib.Core.List.{List, [], _∷_}
+use mathlib.Core.List.{[], _∷_}
 use Prim.Native.Nat.{ℕ}
-use Rattle.order.specs.Orders.{StockOrder}
 use Rattle.telegram.specs.declared.refusal.Refusal.{Refusal}
 use Rattle.telegram.specs.Refusals.{numberOf}
 use Rattle.telegram.specs.Decode.{Read, got, refused}

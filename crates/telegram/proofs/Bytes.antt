@@ -1,8 +1,7 @@
 -- Facts on the bytes of a telegram and on the cells that they spell.
 use mathlib.Core.Path.{_≡_, refl, sym, _∙_, ap}
-use mathlib.Core.List.{List, [], _∷_, _++_}
-use mathlib.Core.Bool.{Bool, true, false, cond}
-use Prim.Native.Nat.{ℕ, zero, suc, _+_, _-_, _*_, _%_, _<_, _≤_}
+use mathlib.Core.List.{List, [], _∷_}
+use Prim.Native.Nat.{ℕ, _+_, _-_, _*_, _<_, _≤_}
 use native.Mathlib.Nat.{add-zero}
 use native.Mathlib.Omega.{arith}
 use borrow.Author.Tests.{le-leb}
@@ -10,11 +9,11 @@ use lib.ListN.{length, getD, take, drop}
 use lib.Seq.{getD-take, getD-drop}
 use Rattle.std.proofs.shelf.Parts.{between-to-end}
 use Rattle.std.specs.declared.result.Result.{Result}
-use Rattle.std.specs.declared.result.Result.the-variants.{Ok, Err}
+use Rattle.std.specs.declared.result.Result.the-variants.{Ok}
 use Rattle.order.specs.declared.refusal.ListRefusal.{ListRefusal}
 use Rattle.order.specs.Refusals.{addition, added, gathered}
 use Rattle.order.proofs.Gather.{gathered-more}
-use Rattle.telegram.specs.Decode.{Read, got, refused, within, cellsOf}
+use Rattle.telegram.specs.Decode.{got, within, cellsOf}
 
 -- the bytes are there
 pub within-got : {V : Type 0} (t : List ℕ) (p n : ℕ) (v : V) → p + n ≤ length t → within t p n v ≡ got v (p + n)

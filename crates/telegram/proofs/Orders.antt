@@ -2,25 +2,23 @@
 use mathlib.Core.Path.{_≡_, refl, sym, _∙_, ap}
 use mathlib.Core.List.{List, [], _∷_, _++_, map}
 use mathlib.Core.Bool.{Bool, true, false, cond}
-use Prim.Native.Nat.{ℕ, zero, suc, _+_, _-_, _<_, _≤_}
+use Prim.Native.Nat.{ℕ, suc, _+_, _-_, _<_, _≤_}
 use native.Mathlib.Omega.{arith}
 use borrow.Author.Tests.{ltb-false}
 use lib.Dec.{ltb}
-use lib.ListN.{length, getD, set, take, drop}
+use lib.ListN.{length, set, take, drop}
 use Rattle.std.proofs.shelf.Lists.{take-append-drop, append-assoc, append-nil, map-append, length-map, length-take-le, take-more-set, drop-set-lt, drop-drop, drop-map}
 use Rattle.std.proofs.shelf.Ways.{tells}
-use Rattle.std.specs.declared.result.Result.{Result}
 use Rattle.std.specs.declared.result.Result.the-variants.{Ok, Err}
 use Rattle.order.specs.declared.stock.Order.{Order}
 use Rattle.order.specs.Orders.{StockOrder, stockOrder}
-use Rattle.order.specs.Refusals.{gathered}
 use Rattle.order.proofs.Gather.{gathered-fits}
 use Rattle.telegram.specs.declared.refusal.Refusal.{Refusal}
 use Rattle.telegram.specs.declared.refusal.Refusal.the-variants.{TooManyOrders}
-use Rattle.telegram.specs.Decode.{Read, got, refused, next, DecodedOrder, byteAt, orderOf, recordAt, recordsAt, countAt, endAt, telegramOf}
+use Rattle.telegram.specs.Decode.{Read, got, refused, next, DecodedOrder, byteAt, orderOf, recordAt, recordsAt, countAt, endAt}
 use Rattle.telegram.specs.Laws.{SoundOrder}
-use Rattle.telegram.specs.Records.{orderIn, withCells}
-use Rattle.telegram.specs.Whole.{orderAt, ordersOf}
+use Rattle.telegram.specs.Records.{orderIn}
+use Rattle.telegram.specs.Whole.{orderAt}
 use Rattle.telegram.proofs.Sound.{good-record, good-got}
 
 -- a sound record's order is itself

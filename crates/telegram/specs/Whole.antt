@@ -6,7 +6,7 @@ use Rattle.std.specs.declared.result.Result.{Result}
 use Rattle.std.specs.declared.result.Result.the-variants.{Ok, Err}
 use Rattle.order.specs.Orders.{StockOrder}
 use Rattle.telegram.specs.declared.refusal.Refused.{Refused}
-use Rattle.telegram.specs.Decode.{Read, got, refused, next, DecodedOrder, orderOf, recordAt, recordsAt, telegramOf}
+use Rattle.telegram.specs.Decode.{Read, got, refused, next, orderOf, recordAt, telegramOf}
 
 -- the orders by themselves
 abbrev pub orderAt : List ℕ → ℕ → Read StockOrder

@@ -1,14 +1,12 @@
 use borrow.Author.Needs.{needs}
 use mathlib.Core.Path.{_≡_, sym, _∙_, ap}
-use mathlib.Core.List.{_∷_, [], _++_}
 use native.Mathlib.Omega.{arith}
-use Prim.Native.Nat.{ℕ, _+_, _<_, _≤_}
+use Prim.Native.Nat.{_+_, _<_}
 use lib.ListN.{length}
 use Rattle.std.proofs.shelf.Lists.{length-push}
 use Rattle.std.proofs.shelf.Results.{err-from-errBy}
 use Rattle.order.specs.Orders.{listed}
 use Rattle.order.proofs.Gather.{taken, repeated}
-use Rattle.telegram.specs.Decode.{entriesAt}
 use Rattle.telegram.proofs.Entries.{within-tells, part-more, entries-cut, entries-repeat, entries-more}
 use Rattle.telegram.proofs.fields.entries.Needs as need
 

@@ -4,7 +4,6 @@ use Prim.Native.Nat.{_≤_, _<_}
 use lib.ListN.{length, length-set}
 use Rattle.std.proofs.shelf.Results.{err-from-errBy}
 use Rattle.std.specs.declared.result.Result.the-variants.{Ok}
-use Rattle.order.specs.Orders.{stockOrder}
 use Rattle.telegram.proofs.Orders.{count-few, table-again, table-stop, rest-again, table-read, table-count, table-whole}
 use Rattle.telegram.proofs.whole.decode.Needs as need
 
