@@ -1,4 +1,6 @@
 //! The lines that answer a run sheet.
+#![tactic(auto)]
+
 mod decoded;
 mod stored;
 

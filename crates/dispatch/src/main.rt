@@ -1,8 +1,11 @@
 //! Reads a run sheet from standard input, and answers each line on standard output.
+#![tactic(auto)]
+
 use answer::{build_answer, cell_answer};
 use sheet::{LineError, Setup, StoreCells};
 use sheet_input::{Request, SheetInput};
 use std::io::{BufRead, BufReader};
+use std::process::ExitCode;
 use store::{DenseStore, SparseStore, Store, Window};
 use write_buffer::WriteBuffer;
 
@@ -88,11 +91,18 @@ fn answer_sheet<R: BufRead>(sheet: &mut SheetInput<R>) -> anyhow::Result<()> {
     }
 }
 
-fn main(rt: HostRuntime) -> anyhow::Result<()> {
-    let mut sheet = SheetInput::new(&rt, BufReader::new(rt.alloc(), rt.stdin())?);
-    let ended = answer_sheet(&mut sheet);
-    if let Err(error) = &ended {
-        eprintln!(rt; "dispatch: {error}")?;
+fn run(rt: &HostRuntime) -> anyhow::Result<()> {
+    let mut sheet = SheetInput::new(rt, BufReader::new(rt.alloc(), rt.stdin())?);
+    answer_sheet(&mut sheet)
+}
+
+fn main(rt: HostRuntime) -> ExitCode {
+    match run(&rt) {
+        Ok(()) => ExitCode::SUCCESS,
+        Err(error) => {
+            // The status tells of the error even where its message cannot be written.
+            let _ = eprintln!(rt; "dispatch: {error}");
+            ExitCode::FAILURE
+        }
     }
-    ended
 }

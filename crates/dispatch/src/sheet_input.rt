@@ -1,4 +1,5 @@
 //! The lines of the sheet on standard input.
+use anyhow::anyhow;
 use answer::decode_answer;
 use sheet::{Line, LineError, SetupLine, read_line, without_end};
 use std::alloc::Global;
@@ -45,13 +46,9 @@ impl<'a, R: BufRead> SheetInput<'a, R> {
     /// Why the program ends at the line that was read last.
     pub fn error(&self, why: LineError) -> anyhow::Error {
         let number = self.number;
-        let text = match why {
-            LineError::NotUnderstood => format!(in self.heap(); "line {number} is not understood"),
-            LineError::NoMemory => format!(in self.heap(); "line {number} finds no memory"),
-        };
-        match text {
-            Ok(text) => text.into(),
-            Err(error) => error.into(),
+        match why {
+            LineError::NotUnderstood => anyhow!("line {number} is not understood"),
+            LineError::NoMemory => anyhow!("line {number} finds no memory"),
         }
     }
 

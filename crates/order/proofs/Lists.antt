@@ -10,7 +10,7 @@ use Rattle.order.specs.Refusals.{addition, added}
 pub has_decides : (xs : List ℕ) (c : ℕ) → Decides (has xs c) (Has xs c)
 has_decides xs c = Decides-by_or (λ x. eqb x c) (λ x. x ≡ c) (λ l. has l c) (λ x. Decides-eqb x c) refl (λ _ _. refl) xs
 
-pub has_contained : (xs : List ℕ) (c : ℕ) (r : Bool) → IsAnyAnswer (λ y t. Decides t (y ≡ c)) xs r → r ≡ has xs c
+pub has_contained : (xs : List ℕ) (c : ℕ) (r : Bool) → IsAnyAnswer (λ y t. eqb y c ≡ t) xs r → r ≡ has xs c
 has_contained xs c r h = same_from_decides r (has xs c) (contains_decides eqb Decides-eqb xs c r h) (has_decides xs c)
 
 -- a cell that one longer list lacks is none of its cells

@@ -1,4 +1,6 @@
 //! Stock orders and their lists of cells.
+#![tactic(auto)]
+
 mod cells;
 mod laws;
 mod refusal;

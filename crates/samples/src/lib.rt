@@ -1,4 +1,6 @@
 //! Worked examples of the definitions, and tests of the crates.
+#![tactic(auto)]
+
 ghost use Rattle.samples.specs.Examples.{WorkedExamples};
 
 #[cfg(test)]

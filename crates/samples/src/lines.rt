@@ -201,13 +201,13 @@ fn lines_with_telegrams(rt: HostRuntime) -> Result<(), Fail> {
 
 #[test]
 fn ends_of_lines(rt: HostRuntime) {
-    assert!(rt; without_end(b"") == b"");
-    assert!(rt; without_end(b"\n") == b"");
-    assert!(rt; without_end(b"\r\n") == b"");
-    assert!(rt; without_end(b"a\r\n") == b"a");
-    assert!(rt; without_end(b"a\n\n") == b"a\n");
-    assert!(rt; without_end(b"a\r\r\n") == b"a\r");
-    assert!(rt; without_end(b"a\r") == b"a\r");
+    assert!(rt; without_end(b"") == b"".as_slice());
+    assert!(rt; without_end(b"\n") == b"".as_slice());
+    assert!(rt; without_end(b"\r\n") == b"".as_slice());
+    assert!(rt; without_end(b"a\r\n") == b"a".as_slice());
+    assert!(rt; without_end(b"a\n\n") == b"a\n".as_slice());
+    assert!(rt; without_end(b"a\r\r\n") == b"a\r".as_slice());
+    assert!(rt; without_end(b"a\r") == b"a\r".as_slice());
 }
 
 fn answers(rt: &(impl Abort + AllocGlobal), bytes: &[u8], text: &str) -> Result<(), Fail> {

@@ -11,7 +11,7 @@ fn a_list_takes_eight_different_cells(rt: HostRuntime) {
     assert_eq!(rt; cells.len(), 8);
     assert_eq!(rt; cells.push(8), Err(ListRefusal::TooMany));
     assert_eq!(rt; cells.push(0), Err(ListRefusal::TooMany));
-    assert!(rt; cells.as_slice() == [0, 1, 2, 3, 4, 5, 6, 7]);
+    assert!(rt; cells.as_slice() == [0, 1, 2, 3, 4, 5, 6, 7].as_slice());
 }
 
 #[test]
@@ -22,13 +22,13 @@ fn a_list_takes_no_cell_twice(rt: HostRuntime) {
     assert_eq!(rt; cells.push(65_535), Err(ListRefusal::Repeated));
     assert!(rt; cells.contains(0));
     assert!(rt; !cells.contains(1));
-    assert!(rt; cells.as_slice() == [65_535, 0]);
+    assert!(rt; cells.as_slice() == [65_535, 0].as_slice());
 }
 
 #[test]
 fn lists_from_slices(rt: HostRuntime) -> Result<(), Fail> {
     match Cells::from_slice(&[9, 4, 7]) {
-        Ok(cells) => assert!(rt; cells.as_slice() == [9, 4, 7]),
+        Ok(cells) => assert!(rt; cells.as_slice() == [9, 4, 7].as_slice()),
         Err(_) => return Err(Fail::new("refused")),
     }
     match Cells::from_slice(&[9, 4, 9]) {

@@ -106,13 +106,13 @@ fn a_whole_telegram(rt: HostRuntime) {
     assert_eq!(rt; orders[0].class, 4);
     assert_eq!(rt; orders[0].code, 1);
     assert_eq!(rt; orders[0].argument, 263);
-    assert!(rt; orders[0].reads.as_slice() == [5]);
-    assert!(rt; orders[0].writes.as_slice() == [5]);
+    assert!(rt; orders[0].reads.as_slice() == [5].as_slice());
+    assert!(rt; orders[0].writes.as_slice() == [5].as_slice());
     assert_eq!(rt; orders[1].class, 2);
     assert_eq!(rt; orders[1].code, 3);
     assert_eq!(rt; orders[1].argument, 0);
-    assert!(rt; orders[1].reads.as_slice() == [5, 262]);
-    assert!(rt; orders[1].writes.as_slice() == [4096]);
+    assert!(rt; orders[1].reads.as_slice() == [5, 262].as_slice());
+    assert!(rt; orders[1].writes.as_slice() == [4096].as_slice());
     assert_eq!(rt; decode(&[0x00], &mut orders), Ok(0));
 }
 
@@ -148,9 +148,9 @@ fn lists_are_parts_of_the_telegram(rt: HostRuntime) -> Result<(), Fail> {
     let Ok(record) = reader.next_record() else {
         return Err(Fail::new("refused"));
     };
-    assert!(rt; record.reads.entries == [1, 2, 3, 4]);
+    assert!(rt; record.reads.entries == [1, 2, 3, 4].as_slice());
     assert_eq!(rt; record.reads.place, 3);
-    assert!(rt; record.writes.entries == [1, 2, 3, 4]);
+    assert!(rt; record.writes.entries == [1, 2, 3, 4].as_slice());
     assert_eq!(rt; record.writes.place, 3);
     // the same list as none
     let Ok(empty) = reader.next_record() else {

@@ -1,4 +1,6 @@
 //! Reads the lines of a run sheet, and keeps what they set up.
+#![tactic(auto)]
+
 ghost use Rattle.std.specs.Prelude.{◌≡◌, ◌∷◌};
 ghost use Rattle.sheet.specs.declared.LineError.TheVariants.{NoMemory};
 ghost use Rattle.sheet.specs.Lines.{line_of, sentence_of, said_by, Tells};

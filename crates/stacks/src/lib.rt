@@ -1,4 +1,6 @@
 //! Stacks of layers: what a client that knows none of them does through all of them, down to the lent memory.
+#![tactic(auto)]
+
 ghost use Rattle.std.specs.Prelude.{◌≡◌, [], length};
 ghost use Rattle.store.specs.Copies.{copy_answer};
 ghost use Rattle.store.specs.Windows.{placed, window_at};

@@ -1,4 +1,6 @@
 //! Location stores: a fixed set of cells with one value each, in memory that the caller lends, and layers over them.
+#![tactic(auto)]
+
 ghost use Rattle.std.specs.Prelude.{◌≡◌, ℕ};
 ghost use Rattle.store.specs.Meaning.{Meaning, checked, put};
 

@@ -1,4 +1,6 @@
 //! A layer that holds written values back from the store below.
+#![tactic(auto)]
+
 mod buffer;
 mod entries;
 mod laws;

@@ -9,6 +9,6 @@ returns g c =
     record {
       answers = c.copy-answer.ensures.answers ∙ ap (λ (f : Meaning). copy_answer f c.args.from c.args.to) c.new-buffer.ensures.means;
       carries =
-          through_buffer g.S.Store c.args.store c.new-buffer.result c.copy-answer.new.store c.into-below.result c.args.from c.args.to
-          c.new-buffer.ensures.under c.new-buffer.ensures.empty c.copy-answer.ensures.went c.into-below.ensures.went;
+          through_buffer g.S.Store c.args.store c.new-buffer.result c.copy-answer.new.store c.into_below.result c.args.from c.args.to
+          c.new-buffer.ensures.under c.new-buffer.ensures.empty c.copy-answer.ensures.went c.into_below.ensures.went;
     }

@@ -16,15 +16,15 @@ returns c =
     let to = c.args.to in
     let f : Meaning = dense_over c.args.values.now in
     let s : DenseStore = c.new-store.result.store in
-    let t : DenseStore = c.copy-windowed-below.result.below in
+    let t : DenseStore = c.copy_windowed-below.result.below in
     let carries : CarriedThrough dense (stack_over f base len from) (window_at f base len to) s (placed base len to) t
     = subst (λ (y : Meaning). CarriedThrough dense (stack_over y base len from) (window_at y base len to) s (placed base len to) t) c.new-store.ensures.means
-    c.copy-windowed-below.ensures.carries in
+    c.copy_windowed-below.ensures.carries in
     let left = dense_memory (stack_over f base len from) (window_at f base len to) (placed base len to) s t c.args.values.now c.new-store.ensures.holds c.new-store.ensures.taken carries in
-    let back = c.into-values.ensures.lent ∙ left.1 ∙ c.new-store.ensures.lent in
-    let holds = c.into-values.ensures.holds ∙ left.0 in
+    let back = c.into_values.ensures.lent ∙ left.1 ∙ c.new-store.ensures.lent in
+    let holds = c.into_values.ensures.holds ∙ left.0 in
     record {
-      answers = c.copy-windowed-below.ensures.answers ∙ ap (λ (y : Meaning). copy_answer (stack_over y base len) from to) c.new-store.ensures.means;
+      answers = c.copy_windowed-below.ensures.answers ∙ ap (λ (y : Meaning). copy_answer (stack_over y base len) from to) c.new-store.ensures.means;
       memory = holds;
       lent = back;
     }

@@ -8,7 +8,7 @@ pub returns : goal.returns
 returns c =
     let o = stock_order c.args.order.now in
     IfOk-weaker c.format.result
-    (λ s. string_bytes s ≡ order_around c.args.k o (string_bytes c.in-ok-lists.lists))
+    (λ s. string_bytes s ≡ order_around c.args.k o (string_bytes c.in_ok-lists.lists))
     (λ s. string_bytes s ≡ order_text c.args.k o)
-    (λ s e. e ∙ ap (order_around c.args.k o) c.in-ok-lists.ensures)
+    (λ s e. e ∙ ap (order_around c.args.k o) c.in_ok-lists.ensures)
     c.format.ensures.ok

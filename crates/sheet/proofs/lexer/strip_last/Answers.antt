@@ -2,8 +2,8 @@ use Rattle.std.proofs.Common.{◌<◌, length, rules, eq-eqb, ne_eqb}
 use Rattle.sheet.proofs.Ends.{stripped_last, stripped_none}
 use Rattle.sheet.proofs.lexer.strip_last.Goals as goal
 
-pub returns-in-default : goal.returns-in-default
-returns-in-default c = let l : length c.args.text.now < 1 = search rules in stripped_none c.args.byte c.args.text.now l
+pub returns-in_default : goal.returns-in_default
+returns-in_default c = let l : length c.args.text.now < 1 = search rules in stripped_none c.args.byte c.args.text.now l
 
 pub returns-then-last-byte : goal.returns-then-last-byte
 returns-then-last-byte c =

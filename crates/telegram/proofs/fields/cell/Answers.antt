@@ -7,4 +7,4 @@ returns c =
     let t = c.args.bytes.now in
     let p = c.args.place.now in
     let h : p + 2 ≤ length t = search rules in
-    record { inside = h; value = rw (c.from-be-bytes.ensures, from_first t p (omega arith), from_place t p 1 (omega arith)) (sym (within_got _ _ 2 _ h)) }
+    record { inside = h; value = rw (c.from_be_bytes.ensures, from_first t p (omega arith), from_place t p 1 (omega arith)) (sym (within_got _ _ 2 _ h)) }

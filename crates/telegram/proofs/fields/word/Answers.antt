@@ -11,4 +11,4 @@ returns c =
     let e1 = from_place t p 1 (omega arith) in
     let e2 = from_place t p 2 (omega arith) in
     let e3 = from_place t p 3 (omega arith) in
-    record { inside = h; value = rw (c.from-be-bytes.ensures, e0, e1, e2, e3) (sym (within_got _ _ 4 _ h)) }
+    record { inside = h; value = rw (c.from_be_bytes.ensures, e0, e1, e2, e3) (sym (within_got _ _ 4 _ h)) }
