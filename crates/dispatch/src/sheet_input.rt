@@ -1,7 +1,7 @@
 //! The lines of the sheet on standard input.
-use anyhow::anyhow;
 use answer::decode_answer;
-use sheet::{Line, LineError, SetupLine, read_line, without_end};
+use anyhow::anyhow;
+use sheet::{Line, LineError, SetupLine, SheetLine, read_sheet_line, without_end};
 use std::alloc::Global;
 use std::io::BufRead;
 
@@ -52,13 +52,13 @@ impl<'a, R: BufRead> SheetInput<'a, R> {
         }
     }
 
-    fn next_line(&mut self) -> anyhow::Result<Option<Line>> {
+    fn next_line(&mut self) -> anyhow::Result<Option<SheetLine>> {
         self.text.clear();
         if self.input.read_until(b'\n', &mut self.text)? == 0 {
             return Ok(None);
         }
         self.number = self.number.saturating_add(1);
-        match read_line(self.heap(), without_end(self.text.as_slice())) {
+        match read_sheet_line(self.heap(), without_end(self.text.as_slice())) {
             Ok(line) => Ok(Some(line)),
             Err(why) => Err(self.error(why)),
         }
@@ -69,12 +69,12 @@ impl<'a, R: BufRead> SheetInput<'a, R> {
         for _ in 0..u64::MAX {
             match self.next_line()? {
                 None => return Ok(None),
-                Some(Line::Empty) => {}
-                Some(Line::Decode(bytes)) => {
+                Some(SheetLine::Plain(Line::Empty)) => {}
+                Some(SheetLine::Plain(Line::Decode(bytes))) => {
                     self.print(decode_answer(self.heap(), bytes.as_slice())?)?;
                 }
-                Some(Line::Setup(line)) => return Ok(Some(Request::Setup(line))),
-                Some(Line::Cell(cell)) => return Ok(Some(Request::Cell(cell))),
+                Some(SheetLine::Setup(line)) => return Ok(Some(Request::Setup(line))),
+                Some(SheetLine::Cell(cell)) => return Ok(Some(Request::Cell(cell))),
             }
         }
         Ok(None)

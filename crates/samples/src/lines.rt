@@ -1,5 +1,7 @@
 use answer::{build_answer, cell_answer, decode_answer};
-use sheet::{Line, LineError, SetupLine, StoreKind, read_line, without_end};
+use sheet::{
+    Line, LineError, SetupLine, SheetLine, StoreKind, read_line, read_sheet_line, without_end,
+};
 use std::process::Abort;
 use std::test::Fail;
 use store::{DenseStore, Refusal, Store, Window};
@@ -11,33 +13,35 @@ fn not_understood(rt: &HostRuntime, text: &[u8]) -> Result<(), Fail> {
     }
 }
 
-fn none_understood(rt: &HostRuntime, lines: &[&[u8]]) -> Result<(), Fail> {
-    for line in lines {
-        not_understood(rt, line)?;
-    }
-    Ok(())
-}
-
 #[test]
 fn lines_not_understood(rt: HostRuntime) -> Result<(), Fail> {
-    none_understood(
-        &rt,
-        &[
-            b"code 00",
-            b"Decode 00",
-            b"decoded 00",
-            b"00",
-            b"decode 0",
-            b"decode 000",
-            b"decode 0g",
-            b"decode 0x",
-            b"decode 00 1",
-            b"decode 00,01",
-            b"decode 0#0",
-            b"decode\r",
-            b"\xFF",
-        ],
-    )
+    not_understood(&rt, b"code 00")?;
+    not_understood(&rt, b"Decode 00")?;
+    not_understood(&rt, b"decoded 00")?;
+    not_understood(&rt, b"00")?;
+    not_understood(&rt, b"decode 0")?;
+    not_understood(&rt, b"decode 000")?;
+    not_understood(&rt, b"decode 0g")?;
+    not_understood(&rt, b"decode 0x")?;
+    not_understood(&rt, b"decode 00 1")?;
+    not_understood(&rt, b"decode 00,01")?;
+    not_understood(&rt, b"decode 0#0")?;
+    not_understood(&rt, b"decode\r")?;
+    not_understood(&rt, b"\xFF")
+}
+
+fn no_sheet_line(rt: &HostRuntime, text: &[u8]) -> Result<(), Fail> {
+    match read_sheet_line(rt.alloc(), text) {
+        Err(LineError::NotUnderstood) => Ok(()),
+        _ => Err(Fail::new("understood")),
+    }
+}
+
+fn none_understood(rt: &HostRuntime, lines: &[&[u8]]) -> Result<(), Fail> {
+    for line in lines {
+        no_sheet_line(rt, line)?;
+    }
+    Ok(())
 }
 
 #[test]
@@ -88,9 +92,41 @@ fn numbers_not_understood(rt: HostRuntime) -> Result<(), Fail> {
     )
 }
 
+#[test]
+fn sheet_lines_that_need_no_store(rt: HostRuntime) -> Result<(), Fail> {
+    none_understood(
+        &rt,
+        &[
+            b"code 00",
+            b"Decode 00",
+            b"decoded 00",
+            b"00",
+            b"decode 0",
+            b"decode 000",
+            b"decode 0g",
+            b"decode 0x",
+            b"decode 00 1",
+            b"decode 00,01",
+            b"decode 0#0",
+            b"decode\r",
+            b"\xFF",
+        ],
+    )?;
+    match read_sheet_line(rt.alloc(), b"decode 09 aF") {
+        Ok(SheetLine::Plain(Line::Decode(read))) => assert!(rt;
+            read.as_slice() == [0x09, 0xAF].as_slice()
+        ),
+        _ => return Err(Fail::new("no telegram")),
+    }
+    match read_sheet_line(rt.alloc(), b" # cell 0") {
+        Ok(SheetLine::Plain(Line::Empty)) => Ok(()),
+        _ => Err(Fail::new("not empty")),
+    }
+}
+
 fn asks_for(rt: &(impl Abort + AllocGlobal), text: &[u8], cell: u16) -> Result<(), Fail> {
-    match read_line(rt.alloc(), text) {
-        Ok(Line::Cell(read)) => {
+    match read_sheet_line(rt.alloc(), text) {
+        Ok(SheetLine::Cell(read)) => {
             assert!(rt; read == cell);
             Ok(())
         },
@@ -107,8 +143,8 @@ fn lines_with_cells(rt: HostRuntime) -> Result<(), Fail> {
 }
 
 fn gives(rt: &(impl Abort + AllocGlobal), text: &[u8], values: &[u32]) -> Result<(), Fail> {
-    match read_line(rt.alloc(), text) {
-        Ok(Line::Setup(SetupLine::Values(read))) => {
+    match read_sheet_line(rt.alloc(), text) {
+        Ok(SheetLine::Setup(SetupLine::Values(read))) => {
             assert!(rt; read.as_slice() == values);
             Ok(())
         },
@@ -123,8 +159,8 @@ fn lines_with_values(rt: HostRuntime) -> Result<(), Fail> {
 }
 
 fn frames(rt: &(impl Abort + AllocGlobal), text: &[u8], base: u16, len: u16) -> Result<(), Fail> {
-    match read_line(rt.alloc(), text) {
-        Ok(Line::Setup(SetupLine::Window(size))) => {
+    match read_sheet_line(rt.alloc(), text) {
+        Ok(SheetLine::Setup(SetupLine::Window(size))) => {
             assert!(rt; size.base == base && size.len == len);
             Ok(())
         },
@@ -139,8 +175,8 @@ fn lines_with_windows(rt: HostRuntime) -> Result<(), Fail> {
 }
 
 fn wants_sparse(rt: &(impl Abort + AllocGlobal), text: &[u8], numbers: &[u16]) -> Result<(), Fail> {
-    match read_line(rt.alloc(), text) {
-        Ok(Line::Setup(SetupLine::Store(StoreKind::Sparse(cells)))) => {
+    match read_sheet_line(rt.alloc(), text) {
+        Ok(SheetLine::Setup(SetupLine::Store(StoreKind::Sparse(cells)))) => {
             assert!(rt; cells.as_slice() == numbers);
             Ok(())
         }
@@ -149,8 +185,8 @@ fn wants_sparse(rt: &(impl Abort + AllocGlobal), text: &[u8], numbers: &[u16]) -
 }
 
 fn wants_dense(rt: &(impl Abort + AllocGlobal), text: &[u8], count: u16) -> Result<(), Fail> {
-    match read_line(rt.alloc(), text) {
-        Ok(Line::Setup(SetupLine::Store(StoreKind::Dense(cells)))) => {
+    match read_sheet_line(rt.alloc(), text) {
+        Ok(SheetLine::Setup(SetupLine::Store(StoreKind::Dense(cells)))) => {
             assert!(rt; cells == count);
             Ok(())
         },

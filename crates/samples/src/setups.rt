@@ -1,10 +1,10 @@
-use sheet::{Line, LineError, Setup, StoreCells, WindowSize, read_line};
+use sheet::{LineError, Setup, SheetLine, StoreCells, WindowSize, read_sheet_line};
 use std::process::Abort;
 use std::test::Fail;
 
 fn add(rt: &HostRuntime, setup: &mut Setup, text: &[u8]) -> Result<(), Fail> {
-    match read_line(rt.alloc(), text) {
-        Ok(Line::Setup(line)) => {
+    match read_sheet_line(rt.alloc(), text) {
+        Ok(SheetLine::Setup(line)) => {
             setup.add(line)?;
             Ok(())
         }
@@ -13,8 +13,8 @@ fn add(rt: &HostRuntime, setup: &mut Setup, text: &[u8]) -> Result<(), Fail> {
 }
 
 fn second(rt: &HostRuntime, setup: &mut Setup, text: &[u8]) -> Result<(), Fail> {
-    match read_line(rt.alloc(), text) {
-        Ok(Line::Setup(line)) => match setup.add(line) {
+    match read_sheet_line(rt.alloc(), text) {
+        Ok(SheetLine::Setup(line)) => match setup.add(line) {
             Err(LineError::NotUnderstood) => Ok(()),
             _ => Err(Fail::new("taken a second time")),
         },

@@ -6,7 +6,7 @@ use Rattle.sheet.specs.declared.LineError.TheVariants.{NotUnderstood}
 use Rattle.sheet.specs.declared.setup.Setup.{Setup}
 use Rattle.sheet.specs.declared.setup.StoreCells.{StoreCells}
 use Rattle.sheet.specs.declared.setup.StoreCells.TheVariants.{Dense, Sparse}
-use Rattle.sheet.specs.Lines.{store_said}
+use Rattle.sheet.specs.Requests.{store_said}
 use Rattle.sheet.specs.Setups.{WantedStore, dense, sparse, Piece, Wanted, came_before, with_piece}
 
 -- what a set-up holds

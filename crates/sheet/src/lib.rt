@@ -1,27 +1,29 @@
 //! Reads the lines of a run sheet, and keeps what they set up.
 #![tactic(auto)]
 
-ghost use Rattle.std.specs.Prelude.{◌≡◌, ◌∷◌};
+ghost use Rattle.std.specs.Prelude.{◌≡◌, ◌∷◌, vec_items};
 ghost use Rattle.sheet.specs.declared.LineError.TheVariants.{NoMemory};
+ghost use Rattle.sheet.specs.Bytes.{bytes_of};
 ghost use Rattle.sheet.specs.Lines.{line_of, sentence_of, said_by, Tells};
 ghost use Rattle.sheet.specs.Words.{plain_words, BlanksPart, CommentsDropped};
 
 use lexer::{Words, before_comment};
-use setup_line::read_setup_line;
 use std::alloc::{AllocFailed, Global};
-use word::{only_number, read_all, same_word};
+use word::{read_all, same_word};
 
 mod decimal;
 mod hex;
 mod lexer;
 mod setup;
 mod setup_line;
+mod sheet_line;
 mod word;
 
 pub use decimal::laws_of_numbers;
 pub use lexer::without_end;
 pub use setup::{Setup, StoreCells, laws_of_setups};
 pub use setup_line::{SetupLine, StoreKind, WindowSize};
+pub use sheet_line::{SheetLine, read_sheet_line};
 
 /// One line of a run sheet, as understood.
 #[derive(Drop)]
@@ -30,10 +32,6 @@ pub enum Line {
     Empty,
     /// `decode`, with the bytes that are to be decoded.
     Decode(Vec<u8>),
-    /// A line that sets something up.
-    Setup(SetupLine),
-    /// `cell`, with the cell whose value is asked for.
-    Cell(u16),
 }
 
 /// Why a line was not read.
@@ -69,12 +67,16 @@ fn read_sentence(heap: Global, verb: &[u8], words: Words) -> Result<Line, LineEr
     ensures { Tells said_by result (sentence_of (verb.now ∷ plain_words words.entry.rest.now)) }
 {
     if same_word(verb, b"decode") {
-        return Ok(Line::Decode(read_all(heap, words)?));
+        return Ok(Line::Decode(read_bytes(heap, words)?));
     }
-    if same_word(verb, b"cell") {
-        return Ok(Line::Cell(only_number(words).ok_or(LineError::NotUnderstood)?));
-    }
-    Ok(Line::Setup(read_setup_line(heap, verb, words)?))
+    Err(LineError::NotUnderstood)
+}
+
+/// The bytes that the words to come say.
+fn read_bytes(heap: Global, words: Words) -> Result<Vec<u8>, LineError>
+    ensures { Tells vec_items result (bytes_of (plain_words words.entry.rest.now)) }
+{
+    read_all(heap, words)
 }
 
 /// What stands after a `#` does not matter, and a blank that stands in no comment parts the words before it from those

@@ -1,6 +1,6 @@
 //! What the set-up lines of a sheet said.
 ghost use Rattle.std.specs.Prelude.{◌≡◌, true, is_some, IfOk, if◌then◌else◌, Some};
-ghost use Rattle.sheet.specs.Lines.{piece_said};
+ghost use Rattle.sheet.specs.Requests.{piece_said};
 ghost use Rattle.sheet.specs.Setups.{nothing_yet, store_wanted, cell_count, memory_of, AnyOrder, PlaceForEach, ValuesInOrder};
 ghost use Rattle.sheet.specs.Held.{wanted, shown_store, addition, added, placing};
 

@@ -1,6 +1,7 @@
 //! The lines that set something up.
 ghost use Rattle.std.specs.Prelude.{◌≡◌};
-ghost use Rattle.sheet.specs.Lines.{Tells, store_said, piece_said};
+ghost use Rattle.sheet.specs.Lines.{Tells};
+ghost use Rattle.sheet.specs.Requests.{store_said, piece_said};
 ghost use Rattle.sheet.specs.Setups.{window_of, store_of, piece_of};
 ghost use Rattle.sheet.specs.Words.{plain_words};
 

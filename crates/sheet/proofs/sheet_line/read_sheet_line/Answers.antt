@@ -1,0 +1,10 @@
+use Rattle.std.proofs.Common.{◌∙◌}
+use Rattle.sheet.proofs.Reading.{told_line}
+use Rattle.sheet.specs.Requests.{request_of, requested}
+use Rattle.sheet.specs.Words.{plain_words}
+use Rattle.sheet.proofs.sheet_line.read_sheet_line.Goals as goal
+
+pub returns-in-Some : goal.returns-in-Some
+returns-in-Some c =
+    told_line requested request_of c.read_request.result c.args.text.now c.new-words.result.rest.now c.in-Some.verb.now (plain_words c.next.new.self.rest.now)
+    (c.new-words.ensures ∙ c.before_comment.ensures) c.in-Some.ensures.value c.in-Some.ensures.after c.read_request.ensures
