@@ -1,13 +1,13 @@
 -- Facts on lists of cells.
 use Rattle.std.proofs.Common.{◌≡◌, ℕ, ◌+◌, ◌<◌, Bool, true, false, eqb, leb, List, [], ◌∷◌, ◌++◌, length, take, set, Ok, Decides, refl, arith}
-use Rattle.std.specs.List.{IsAnyAnswer, ContainsAt as Has}
+use Rattle.std.specs.List.{IsAnyAnswer, ContainsAt}
 use Rattle.std.proofs.lemmas.List.Elements.{contains_decides}
 use Rattle.std.proofs.lemmas.Bool.Decides.{same_from_decides, Decides-eqb, Decides-by_or, nat_tests}
 use Rattle.std.proofs.lemmas.List.{take_more_set, length-take-le}
 use Rattle.order.specs.Cells.{has, different}
 use Rattle.order.specs.Refusals.{addition, added}
 
-pub has_decides : (xs : List ℕ) (c : ℕ) → Decides (has xs c) (Has xs c)
+pub has_decides : (xs : List ℕ) (c : ℕ) → Decides (has xs c) (ContainsAt xs c)
 has_decides xs c = Decides-by_or (λ x. eqb x c) (λ x. x ≡ c) (λ l. has l c) (λ x. Decides-eqb x c) refl (λ _ _. refl) xs
 
 pub has_contained : (xs : List ℕ) (c : ℕ) (r : Bool) → IsAnyAnswer (λ y t. eqb y c ≡ t) xs r → r ≡ has xs c

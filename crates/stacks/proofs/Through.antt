@@ -1,5 +1,5 @@
 -- What comes through a layer that is taken apart. Assumes nothing.
-use Rattle.std.proofs.Common.{◌≡◌, ℕ, List, [], ◌∷◌, length, Ok, Err, Result, sym, refl, ap, ◌∙◌, subst, arith}
+use Rattle.std.proofs.Common.{◌≡◌, ℕ, List, [], ◌∷◌, length, Ok, Err, Result, sym, ap, ◌∙◌, subst}
 use Rattle.store.specs.declared.fault.Fault.{Fault}
 use Rattle.store.specs.declared.Store.{Ghosts}
 use Rattle.store.specs.declared.dense.DenseStore.{DenseStore}

@@ -1,10 +1,9 @@
 -- Halving between two places. Assumes nothing.
-use Rattle.std.proofs.Common.{◌≡◌, ℕ, zero, suc, ◌+◌, ◌-◌, ◌/◌, ◌<◌, ◌≤◌, Bool, true, false, cond, ◌&&◌, eqb, ltb, ◌≢◌, ◌⊎◌, List, [], ◌∷◌, length, get_or, Some, None, Ok, Err, Option, Result, sym, refl, ap, ◌∙◌, inl, inr, arith}
+use Rattle.std.proofs.Common.{◌≡◌, ℕ, zero, suc, ◌+◌, ◌-◌, ◌<◌, ◌≤◌, Bool, true, false, cond, ◌&&◌, eqb, ltb, List, [], ◌∷◌, length, get_or, Ok, Err, sym, refl, ap, ◌∙◌, inl, inr, arith}
 use mathlib.Core.Path.{fun_ext}
 use Rattle.std.proofs.lemmas.Bool.{and_parts, le-leb, eqb-true, eq-eqb, ne_eqb, cases_eq, cases_lt, lt-ltb, le-ltb}
-use Rattle.store.specs.declared.fault.Fault.{Fault}
 use Rattle.store.specs.Faults.{missing}
-use Rattle.store.specs.Sparse.{listed_at, middle, halved, sought, place_at, place_of, value_at, sparse_at}
+use Rattle.store.specs.Sparse.{listed_at, middle, halved, sought, place_at, value_at, sparse_at}
 use Rattle.store.specs.Slices.{short, rising, paired, if_taken}
 use Rattle.store.proofs.Rising.{Rising, rising_sound}
 

@@ -1,5 +1,5 @@
 -- Which slices a store can be built over, and what building answers. Assumes nothing.
-use Rattle.std.specs.Prelude.{ℕ, Bool, true, false, cond, ◌&&◌, List, [], ◌∷◌, length, Some, None, Option, ◌==◌, nat_le, nat_lt, slice_set}
+use Rattle.std.specs.Prelude.{ℕ, Bool, true, false, ◌&&◌, List, [], ◌∷◌, length, Some, None, Option, ◌==◌, nat_le, nat_lt, slice_set}
 use Rattle.store.specs.declared.build.Refusal.{Refusal}
 use Rattle.store.specs.declared.build.Refusal.TheVariants.{BadSlices}
 use Rattle.store.specs.Meaning.{Meaning, no_cells}

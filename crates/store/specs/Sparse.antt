@@ -1,6 +1,5 @@
 -- The cells that a slice lists. Assumes nothing.
-use Rattle.std.specs.Prelude.{ℕ, zero, suc, ◌+◌, ◌-◌, ◌/◌, Bool, cond, List, [], ◌∷◌, length, Some, None, Ok, Err, Option, Result, ◌==◌, nat_lt, slice_index}
-use Rattle.store.specs.declared.fault.Fault.{Fault}
+use Rattle.std.specs.Prelude.{ℕ, zero, suc, ◌+◌, ◌-◌, ◌/◌, Bool, cond, List, [], ◌∷◌, length, Some, None, Ok, Err, Option, ◌==◌, nat_lt, slice_index}
 use Rattle.store.specs.Faults.{missing}
 use Rattle.store.specs.Meaning.{Meaning}
 

@@ -1,7 +1,7 @@
 -- What every reading has: it goes forward, stays inside, depends on its own bytes, and places its refusals.
 use Rattle.std.proofs.Common.{◌≡◌, ℕ, zero, suc, ◌+◌, ◌*◌, ◌<◌, ◌≤◌, Bool, true, false, cond, ◌&&◌, ◌||◌, eqb, ltb, leb, List, [], ◌∷◌, ◌++◌, length, get_or, sym, refl, ap, arith, ltb-false, ltb-true, le-leb, leb-true}
 use Rattle.std.proofs.lemmas.List.{length_push}
-use Rattle.std.specs.List.{AllByRecursion as All}
+use Rattle.std.specs.List.{AllByRecursion}
 use Rattle.std.proofs.lemmas.Bool.Decides.{nat_tests}
 use Rattle.order.specs.Cells.{has, different}
 use Rattle.order.proofs.Lists.{different_push}
@@ -162,7 +162,7 @@ good_record t p l =
 
 -- as many sound orders as the count says
 abbrev pub Counted : ℕ → List DecodedOrder → Type 0
-Counted n ds = (length ds ≡ n) × All SoundOrder ds
+Counted n ds = (length ds ≡ n) × AllByRecursion SoundOrder ds
 
 pub good_records : (n : ℕ) (t : List ℕ) (a p : ℕ) → a ≤ p → p ≤ length t → Good t a p 0 (Counted n) (λ u. records_at n u p) (records_at n t p)
 good_records zero t a p o l = (omega arith, l, (refl, tt), λ u ag j. refl)
@@ -182,14 +182,14 @@ good_refused t a p n P f r e z g h = rw h at g
 
 -- what holds of a whole telegram
 abbrev Whole : List ℕ → Read (List DecodedOrder) → Type 0
-Whole t (got ds q) = (length ds ≤ 64) × All SoundOrder ds × (q ≡ length t)
+Whole t (got ds q) = (length ds ≤ 64) × AllByRecursion SoundOrder ds × (q ≡ length t)
 Whole t (refused e r) = Placed t 0 e r
 
 by_next : {V W : Type 0} (r : Read V) (f : V → ℕ → Read W) (Q : Read W → Type 0) → ((v : V) (q : ℕ) → r ≡ got v q → Q (f v q)) → ((e : Refusal) (z : ℕ) → r ≡ refused e z → Q (refused e z)) → Q (next r f)
 by_next (got v q) f Q h k = h v q refl
 by_next (refused e z) f Q h k = k e z refl
 
-whole_end : (t : List ℕ) (ds : List DecodedOrder) (q : ℕ) (b : Bool) → q ≤ length t → (b ≡ true → q < length t) → (b ≡ false → length t ≤ q) → length ds ≤ 64 → All SoundOrder ds
+whole_end : (t : List ℕ) (ds : List DecodedOrder) (q : ℕ) (b : Bool) → q ≤ length t → (b ≡ true → q < length t) → (b ≡ false → length t ≤ q) → length ds ≤ 64 → AllByRecursion SoundOrder ds
     → Whole t (next (cond b (refused LeftOver q) (got (tt {0}) q)) (λ _ r. got ds r))
 whole_end t ds q true l h k n s = (omega arith, λ x. absurd (omega arith), λ x. h refl)
 whole_end t ds q false l h k n s = (n, s, omega (arith, k refl))
@@ -210,7 +210,7 @@ whole t =
     (λ e z h. good_refused t 0 p 0 (Counted n) (λ u. records_at n u p) (records_at n t p) e z records h))
     (λ e z h. good_refused t 0 0 1 Few (λ u. count_at u 0) (count_at t 0) e z count h)
 
-pub whole_got : (t : List ℕ) (ds : List DecodedOrder) (q : ℕ) → telegram_of t ≡ got ds q → (length ds ≤ 64) × All SoundOrder ds × (q ≡ length t)
+pub whole_got : (t : List ℕ) (ds : List DecodedOrder) (q : ℕ) → telegram_of t ≡ got ds q → (length ds ≤ 64) × AllByRecursion SoundOrder ds × (q ≡ length t)
 whole_got t ds q e = rw e at (whole t)
 
 pub whole_refused : (t : List ℕ) (e : Refusal) (r : ℕ) → telegram_of t ≡ refused e r → Placed t 0 e r

@@ -1,6 +1,6 @@
 -- What holds of everything that is decoded.
 use Rattle.std.specs.Prelude.{◌≡◌, ℕ, ◌<◌, ◌≤◌, true, List, length, slice_index}
-use Rattle.std.specs.List.{AllByRecursion as All}
+use Rattle.std.specs.List.{AllByRecursion}
 use Rattle.order.specs.Cells.{different}
 use Rattle.telegram.specs.declared.refusal.Refusal.{Refusal}
 use Rattle.order.specs.declared.refusal.ListRefusal.{ListRefusal}
@@ -41,7 +41,7 @@ RefusalsArePlaced = (t : List ℕ) (p r : ℕ) (e : Refusal) → p ≤ length t 
 -- an accepted telegram has at most 64 orders, each sound, and ends with the last of them; a refusal of another is placed as above
 abbrev pub TelegramsAreWhole : Type 0
 TelegramsAreWhole =
-    ((t : List ℕ) (q : ℕ) (ds : List DecodedOrder) → telegram_of t ≡ got ds q → (length ds ≤ 64) × All SoundOrder ds × (q ≡ length t))
+    ((t : List ℕ) (q : ℕ) (ds : List DecodedOrder) → telegram_of t ≡ got ds q → (length ds ≤ 64) × AllByRecursion SoundOrder ds × (q ≡ length t))
     × ((t : List ℕ) (r : ℕ) (e : Refusal) → telegram_of t ≡ refused e r → Placed t 0 e r)
 
 -- a list's refusal keeps its number as the telegram's

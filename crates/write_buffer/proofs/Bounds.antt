@@ -1,9 +1,9 @@
 -- How much is held. Assumes nothing.
-use Rattle.std.proofs.Common.{◌≡◌, ℕ, suc, ◌+◌, ◌<◌, ◌≤◌, Bool, true, false, cond, eqb, ltb, ◌≢◌, ◌⊎◌, List, [], ◌∷◌, ◌++◌, map, length, drop, Some, None, Option, sym, refl, ap, ◌∙◌, subst, inl, inr, arith}
+use Rattle.std.proofs.Common.{◌≡◌, ℕ, suc, ◌≤◌, cond, eqb, List, [], ◌∷◌, ◌++◌, map, length, Some, None, Option, sym, refl, ap, ◌∙◌, inl, inr, arith}
 use Rattle.std.proofs.lemmas.List.{length-append}
 use Rattle.std.proofs.lemmas.Bool.{eq-eqb, ne_eqb, cases_eq, cases_lt, lt-ltb, le-ltb}
 use Rattle.write_buffer.specs.declared.entries.Entry.{Entry}
-use Rattle.write_buffer.specs.Held.{entry, or_else, held_value, renewed, with_room, written_by, written}
+use Rattle.write_buffer.specs.Held.{entry, or_else, held_value, renewed, written_by, written}
 use Rattle.write_buffer.specs.Laws.{HeldOnce, cell_of}
 use Rattle.write_buffer.proofs.Laid.{changed, renewed_same, renewed_other}
 

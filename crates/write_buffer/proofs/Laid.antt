@@ -1,5 +1,5 @@
 -- Values laid over a meaning. Assumes nothing.
-use Rattle.std.proofs.Common.{◌≡◌, ℕ, ◌<◌, Bool, true, false, cond, eqb, ltb, ◌≢◌, ◌⊎◌, List, [], ◌∷◌, ◌++◌, length, drop, Some, None, Ok, Err, Option, Result, sym, refl, ap, ◌∙◌, inl, inr, arith}
+use Rattle.std.proofs.Common.{◌≡◌, ℕ, cond, eqb, ◌≢◌, List, [], ◌∷◌, ◌++◌, length, Some, None, Ok, Err, Option, Result, sym, refl, ap, ◌∙◌, inl, inr}
 use mathlib.Core.Path.{fun_ext}
 use Rattle.std.proofs.lemmas.Bool.{eq-eqb, ne_eqb, cases_eq, cases_lt, lt-ltb, le-ltb}
 use Rattle.store.specs.declared.fault.Fault.{Fault}
@@ -7,7 +7,7 @@ use Rattle.store.specs.Faults.{raised}
 use Rattle.store.specs.Meaning.{Meaning, checked, rewritten, put}
 use Rattle.store.proofs.Writes.{cells_stay}
 use Rattle.write_buffer.specs.declared.entries.Entry.{Entry}
-use Rattle.write_buffer.specs.Held.{entry, or_else, held_value, renewed, oldest, with_room, evicted, written_by, written, sent_by, sent}
+use Rattle.write_buffer.specs.Held.{entry, or_else, held_value, renewed, written_by, written, sent_by, sent}
 use Rattle.write_buffer.specs.Buffered.{laid, sunk}
 
 rewritten_twice : (r : Result ℕ Fault) (v w : ℕ) → rewritten (rewritten r v) w ≡ rewritten r w

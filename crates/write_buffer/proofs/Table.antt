@@ -1,8 +1,8 @@
 -- The table of entries as a list by age. Assumes nothing.
-use Rattle.std.proofs.Common.{◌≡◌, ℕ, zero, suc, ◌+◌, ◌-◌, ◌<◌, ◌≤◌, min, Bool, true, false, cond, eqb, ltb, ◌⊎◌, List, [], ◌∷◌, ◌++◌, length, get_or, take, drop, set, Some, None, Option, sym, refl, ap, ◌∙◌, inl, inr, arith}
+use Rattle.std.proofs.Common.{◌≡◌, ℕ, zero, suc, ◌+◌, ◌-◌, ◌<◌, ◌≤◌, min, cond, eqb, List, [], ◌∷◌, ◌++◌, length, get_or, take, drop, set, Some, None, Option, sym, refl, ap, ◌∙◌, inl, inr, arith}
 use lib.Seq.{take-append-le}
 use Rattle.std.proofs.lemmas.Bool.{eq-eqb, ne_eqb, cases_lt}
-use Rattle.std.proofs.lemmas.List.{length-take, get_or-take, take_all, take_more_set}
+use Rattle.std.proofs.lemmas.List.{length-take, take_all, take_more_set}
 use Rattle.write_buffer.specs.declared.entries.Entry.{Entry}
 use Rattle.write_buffer.specs.Held.{entry, or_else, held_value, renewed, written_by, written, sent_by, sent}
 

@@ -5,7 +5,7 @@ use Rattle.store.specs.Meaning.{Meaning}
 use Rattle.write_buffer.specs.declared.entries.Entry.{Entry}
 use Rattle.write_buffer.specs.declared.buffer.WriteBuffer.{WriteBuffer}
 use Rattle.write_buffer.specs.Held.{by_age}
-use Rattle.write_buffer.specs.Buffered.{laid, buffer_at, written_if, sent_if}
+use Rattle.write_buffer.specs.Buffered.{buffer_at, written_if, sent_if}
 
 -- the held values, the one held longest first
 abbrev pub held_by : {X : Type 0} → WriteBuffer X → List Entry

@@ -1,9 +1,8 @@
-use Rattle.std.proofs.Common.{◌≡◌, ap, ◌∙◌, subst}
+use Rattle.std.proofs.Common.{ap, ◌∙◌, subst}
 use Rattle.store.specs.Meaning.{Meaning}
 use Rattle.store.specs.Copies.{copy_answer}
 use Rattle.store.specs.Windows.{placed, window_at}
 use Rattle.store.specs.declared.dense.DenseStore.{DenseStore}
-use Rattle.store.specs.Seen.{dense_seen}
 use Rattle.stacks.specs.Carried.{stack_over, dense_over, CarriedThrough}
 use Rattle.stacks.proofs.Through.{dense, dense_memory}
 use Rattle.stacks.proofs.copy_in_dense.Goals as goal

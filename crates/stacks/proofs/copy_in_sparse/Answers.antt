@@ -1,9 +1,8 @@
-use Rattle.std.proofs.Common.{◌≡◌, ap, ◌∙◌, subst}
+use Rattle.std.proofs.Common.{ap, ◌∙◌, subst}
 use Rattle.store.specs.Meaning.{Meaning}
 use Rattle.store.specs.Copies.{copy_answer}
 use Rattle.store.specs.Windows.{placed, window_at}
 use Rattle.store.specs.declared.sparse.SparseStore.{SparseStore}
-use Rattle.store.specs.Seen.{sparse_seen}
 use Rattle.stacks.specs.Carried.{stack_over, sparse_over, CarriedThrough}
 use Rattle.stacks.proofs.Through.{sparse, sparse_memory}
 use Rattle.stacks.proofs.copy_in_sparse.Goals as goal

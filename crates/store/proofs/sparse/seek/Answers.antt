@@ -1,4 +1,4 @@
-use Rattle.std.proofs.Common.{◌≡◌, sym, ◌∙◌, arith}
+use Rattle.std.proofs.Common.{sym, ◌∙◌, arith}
 use Rattle.store.proofs.Halving.{halved_up, halved_down, halved_end}
 use Rattle.store.proofs.sparse.seek.Goals as goal
 

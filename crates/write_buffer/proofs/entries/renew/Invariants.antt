@@ -1,4 +1,4 @@
-use Rattle.std.proofs.Common.{◌≡◌, length}
+use Rattle.std.proofs.Common.{◌≡◌}
 use Rattle.write_buffer.specs.Held.{renewed}
 use Rattle.write_buffer.proofs.Table.{passed}
 use Rattle.write_buffer.proofs.entries.renew.Given as goal
