@@ -77,7 +77,7 @@ fn read_sentence(heap: Global, verb: &[u8], words: Words) -> Result<Line, LineEr
 fn read_bytes(heap: Global, words: Words) -> Result<Vec<u8>, LineError>
     ensures { Tells vec_items result (bytes_of (plain_words words.entry.rest.now)) }
 {
-    let bytes = read_all(heap, words)?;
+    let bytes: Vec<u8> = read_all(heap, words)?;
     Ok(bytes)
 }
 
