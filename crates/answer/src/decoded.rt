@@ -49,7 +49,7 @@ fn accepted_text(heap: Global, orders: &[Order]) -> Result<String, AllocError>
 fn refused_text(heap: Global, refused: Refused) -> Result<String, AllocError>
     ensures { IfOk result (λ s. string_bytes s ≡ refused_text (number_of refused.refusal) refused.place) }
 {
-    let number = refused.refusal.number();
+    let number = u8::from(refused.refusal);
     let place = refused.place;
     format!(in heap; "decode: refused {number} at {place}\n")
 }

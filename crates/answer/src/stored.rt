@@ -8,7 +8,7 @@ use store::{Fault, Refusal, Store};
 fn fault_text(heap: Global, cell: u16, fault: Fault) -> Result<String, AllocError>
     ensures { IfOk result (λ s. string_bytes s ≡ fault_text cell fault) }
 {
-    let cause = fault.cause.number();
+    let cause = u8::from(fault.cause);
     let refused = fault.cell;
     let depth = fault.depth;
     format!(in heap; "cell {cell}: refused 9, cause {cause}, cell {refused}, depth {depth}\n")
@@ -27,7 +27,7 @@ pub fn cell_answer<S: Store>(heap: Global, store: &S, cell: u16) -> Result<Strin
 fn refusal_text(heap: Global, refusal: Refusal) -> Result<String, AllocError>
     ensures { IfOk result (λ s. string_bytes s ≡ refusal_text (refusal_number refusal)) }
 {
-    let number = refusal.number();
+    let number = u8::from(refusal);
     format!(in heap; "store: refused {number}\n")
 }
 

@@ -8,11 +8,12 @@ pub enum ListRefusal {
     Repeated,
 }
 
-impl ListRefusal {
-    pub fn number(self) -> u8
-        ensures { result ≡ number_of self }
-    {
-        match self {
+/// The number of the refusal.
+impl From<ListRefusal> for u8 {
+    ghost from_gives = { λ r n. n ≡ number_of r };
+
+    fn from(refusal: ListRefusal) -> u8 {
+        match refusal {
             ListRefusal::TooMany => 6,
             ListRefusal::Repeated => 7,
         }

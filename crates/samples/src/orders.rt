@@ -46,10 +46,10 @@ fn lists_from_slices(rt: HostRuntime) -> Result<(), Fail> {
 
 #[test]
 fn numbers_of_list_refusals(rt: HostRuntime) {
-    assert_eq!(rt; ListRefusal::TooMany.number(), 6);
-    assert_eq!(rt; ListRefusal::Repeated.number(), 7);
-    assert_eq!(rt; Refusal::from(ListRefusal::TooMany).number(), 6);
-    assert_eq!(rt; Refusal::from(ListRefusal::Repeated).number(), 7);
+    assert_eq!(rt; u8::from(ListRefusal::TooMany), 6);
+    assert_eq!(rt; u8::from(ListRefusal::Repeated), 7);
+    assert_eq!(rt; u8::from(Refusal::from(ListRefusal::TooMany)), 6);
+    assert_eq!(rt; u8::from(Refusal::from(ListRefusal::Repeated)), 7);
 }
 
 /// What becomes of a record that no reader made.

@@ -250,9 +250,9 @@ fn faults_through_layers(rt: HostRuntime) {
 fn depths_and_numbers(rt: HostRuntime) {
     assert_eq!(rt; missing(3, 65_534).passed_up(), missing(3, 65_535));
     assert_eq!(rt; outside(3, 65_535).passed_up(), outside(3, 65_535));
-    assert_eq!(rt; Cause::NoSuchCell.number(), 1);
-    assert_eq!(rt; Cause::OutsideWindow.number(), 2);
-    assert_eq!(rt; Refusal::BadSlices.number(), 13);
+    assert_eq!(rt; u8::from(Cause::NoSuchCell), 1);
+    assert_eq!(rt; u8::from(Cause::OutsideWindow), 2);
+    assert_eq!(rt; u8::from(Refusal::BadSlices), 13);
 }
 
 #[test]

@@ -11,7 +11,7 @@ fn refuses(rt: &impl Abort, bytes: &[u8], number: u8, place: usize) -> Result<()
     match decode(bytes, &mut orders) {
         Ok(_) => Err(Fail::new("accepted")),
         Err(refused) => {
-            assert_eq!(rt; refused.refusal.number(), number);
+            assert_eq!(rt; u8::from(refused.refusal), number);
             assert_eq!(rt; refused.place, place);
             assert_eq!(rt; orders[0].argument, 77);
             assert_eq!(rt; orders[63].argument, 77);

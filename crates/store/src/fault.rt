@@ -18,12 +18,12 @@ pub struct Fault {
     pub depth: u16,
 }
 
-impl Cause {
-    /// The number of the cause.
-    pub fn number(self) -> u8
-        ensures { result ≡ cause_number self }
-    {
-        match self {
+/// The number of the cause.
+impl From<Cause> for u8 {
+    ghost from_gives = { λ c n. n ≡ cause_number c };
+
+    fn from(cause: Cause) -> u8 {
+        match cause {
             Cause::NoSuchCell => 1,
             Cause::OutsideWindow => 2,
         }

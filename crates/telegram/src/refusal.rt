@@ -15,11 +15,12 @@ pub enum Refusal {
     RepeatedCell,
 }
 
-impl Refusal {
-    pub fn number(self) -> u8
-        ensures { result ≡ number_of self }
-    {
-        match self {
+/// The number of the refusal.
+impl From<Refusal> for u8 {
+    ghost from_gives = { λ r n. n ≡ number_of r };
+
+    fn from(refusal: Refusal) -> u8 {
+        match refusal {
             Refusal::EndsEarly => 1,
             Refusal::LeftOver => 2,
             Refusal::TooManyOrders => 3,
