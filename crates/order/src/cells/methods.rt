@@ -16,13 +16,6 @@ impl Cells {
         }
     }
 
-    /// The cells in their order, or the refusal of the first that is not taken.
-    pub fn from_slice(cells: &[u16]) -> Result<Cells, ListRefusal>
-        ensures { held_cells result ≡ gathered [] cells.now }
-    {
-        extended(Cells::new(), cells)
-    }
-
     pub fn len(&self) -> usize
         ensures { result ≡ length (listed self.now) }
     {
@@ -57,6 +50,17 @@ impl Cells {
         self.items[count] = cell;
         self.count = count + 1;
         Ok(())
+    }
+}
+
+/// The cells in their order, or the refusal of the first that is not taken.
+impl TryFrom<&[u16]> for Cells {
+    type Error = ListRefusal;
+
+    ghost try_from_gives = { λ cells r. held_cells r ≡ gathered [] cells.now };
+
+    fn try_from(cells: &[u16]) -> Result<Cells, ListRefusal> {
+        extended(Cells::new(), cells)
     }
 }
 
