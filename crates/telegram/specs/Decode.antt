@@ -1,5 +1,5 @@
 -- What the bytes of a telegram say from a place on.
-use Rattle.std.specs.Prelude.{ℕ, zero, suc, ◌+◌, ◌*◌, ◌/◌, ◌%◌, ◌^◌, Bool, cond, ◌&&◌, ◌||◌, List, [], ◌∷◌, ◌++◌, length, ◌==◌, nat_le, nat_lt, slice_index}
+use Rattle.std.specs.Prelude.{ℕ, zero, suc, ◌+◌, ◌*◌, ◌/◌, ◌%◌, ◌^◌, Bool, cond, ◌&&◌, ◌||◌, List, [], ◌∷◌, ◌++◌, length, take, drop, ◌==◌, nat_le, nat_lt, slice_index}
 use Rattle.order.specs.Cells.{has}
 use Rattle.order.specs.Orders.{StockOrder}
 use Rattle.telegram.specs.declared.refusal.Refusal.{Refusal}
@@ -19,6 +19,10 @@ next (refused e p) f = refused e p
 abbrev pub within : {V : Type 0} → List ℕ → ℕ → ℕ → V → Read V
 within t p n v = cond (nat_le (p + n) (length t)) (got v (p + n)) (refused EndsEarly (length t))
 
+-- n bytes by themselves
+abbrev pub bytes_at : ℕ → List ℕ → ℕ → Read (List ℕ)
+bytes_at n t p = within t p n (take n (drop p t))
+
 -- numbers of one, two and four bytes, the high byte first
 abbrev pub byte_at : List ℕ → ℕ → Read ℕ
 byte_at t p = within t p 1 (slice_index t p)
@@ -37,9 +41,13 @@ stands m k = m / 2 ^ k % 2 == 1
 abbrev pub map_at : List ℕ → ℕ → Read ℕ
 map_at t p = next (byte_at t p) (λ m q. cond (stands m 6 || stands m 7 || (stands m 4 && stands m 5)) (refused BadMap p) (got m q))
 
+-- a byte of at most max: a larger one is refused, with this refusal
+abbrev pub byte_up_to : ℕ → Refusal → List ℕ → ℕ → Read ℕ
+byte_up_to max e t p = next (byte_at t p) (λ b q. cond (nat_lt max b) (refused e p) (got b q))
+
 -- a class is at most 7
 abbrev pub class_at : List ℕ → ℕ → Read ℕ
-class_at t p = next (byte_at t p) (λ c q. cond (nat_lt 7 c) (refused BadClass p) (got c q))
+class_at t p = byte_up_to 7 BadClass t p
 
 -- n entries of a list after the cells that stand before them: none of them repeats a cell of the list
 abbrev pub entries_at : ℕ → List ℕ → List ℕ → ℕ → Read (List ℕ)
@@ -94,7 +102,7 @@ record_at t p =
 
 -- the number of orders: at most 64
 abbrev pub count_at : List ℕ → ℕ → Read ℕ
-count_at t p = next (byte_at t p) (λ n q. cond (nat_lt 64 n) (refused TooManyOrders p) (got n q))
+count_at t p = byte_up_to 64 TooManyOrders t p
 
 -- n records, one after another
 abbrev pub records_at : ℕ → List ℕ → ℕ → Read (List DecodedOrder)

@@ -1,7 +1,6 @@
 //! The order telegram: how its bytes are read, and what they say.
 #![tactic(auto)]
 
-mod fields;
 mod laws;
 mod list;
 mod reader;

@@ -1,5 +1,6 @@
 ghost use Rattle.std.specs.Prelude.{◌≤◌, length};
 
+mod fields;
 mod methods;
 
 /// Reads a telegram from its start on; the place is the number of the next byte.

@@ -32,6 +32,19 @@ impl From<Refusal> for u8 {
     }
 }
 
+impl Refusal {
+    /// The refusal beside its place.
+    pub(super) fn at(self, place: usize) -> Refused
+        ensures refusal { result.refusal ≡ self }
+        ensures place { result.place ≡ place }
+    {
+        Refused {
+            refusal: self,
+            place,
+        }
+    }
+}
+
 impl From<ListRefusal> for Refusal {
     ghost from_gives = { λ l r. r ≡ from_list l };
 

@@ -2,27 +2,26 @@ ghost use Rattle.std.specs.Prelude.{◌≡◌, IfOk, if◌then◌else◌};
 ghost use Rattle.telegram.specs.Decode.{count_at, record_at, end_at, place_after};
 ghost use Rattle.telegram.specs.Records.{seen, seen_record, PartsOf};
 
-use super::super::fields;
 use super::super::record::Record;
 use super::super::refusal::{Refusal, Refused};
 use super::Reader;
 
-/// Puts the reader's place back at its end, unless what was read was accepted.
-struct Rewind<'r> {
-    place: &'r mut usize,
-    start: usize,
+/// Puts the reader back where it stood, at its end, unless what was read was accepted.
+struct Rewind<'r, 'a> {
+    reader: &'r mut Reader<'a>,
+    start: Reader<'a>,
     accepted: bool,
 }
 
-impl Drop for Rewind<'_> {
+impl Drop for Rewind<'_, '_> {
     fn drop(self)
-        ensures { self.exit.0.now ≡ (if self.entry.accepted then self.entry.place.now else self.entry.start) }
+        ensures { self.exit.0.now ≡ (if self.entry.accepted then self.entry.reader.now else self.entry.start) }
     {
         if !self.accepted {
-            *self.place = self.start;
+            *self.reader = self.start;
         }
         let Rewind {
-            place: _,
+            reader: _,
             start: _,
             accepted: _,
         } = self;
@@ -49,13 +48,13 @@ impl<'a> Reader<'a> {
         ensures place { self.new.place ≡ place_after self.old.place (count_at self.old.bytes.now self.old.place) }
         ensures value { seen result self.new.place ≡ count_at self.old.bytes.now self.old.place }
     {
-        let start = self.place;
+        let start = *self;
         let mut rewind = Rewind {
-            place: &mut self.place,
+            reader: self,
             start,
             accepted: false,
         };
-        let count = fields::count(self.bytes, rewind.place)?;
+        let count = rewind.reader.byte_up_to(64, Refusal::TooManyOrders)?;
         rewind.accepted = true;
         Ok(count)
     }
@@ -67,13 +66,13 @@ impl<'a> Reader<'a> {
         ensures parts { IfOk result (PartsOf self.old.bytes.now) }
         ensures value { seen_record result self.new.place ≡ record_at self.old.bytes.now self.old.place }
     {
-        let start = self.place;
+        let start = *self;
         let mut rewind = Rewind {
-            place: &mut self.place,
+            reader: self,
             start,
             accepted: false,
         };
-        let record = fields::record(self.bytes, rewind.place)?;
+        let record = rewind.reader.record()?;
         rewind.accepted = true;
         Ok(record)
     }
@@ -83,10 +82,7 @@ impl<'a> Reader<'a> {
         ensures { seen result self.now.place ≡ end_at self.now.bytes.now self.now.place }
     {
         if self.place < self.bytes.len() {
-            return Err(Refused {
-                refusal: Refusal::LeftOver,
-                place: self.place,
-            });
+            return Err(Refusal::LeftOver.at(self.place));
         }
         Ok(())
     }
