@@ -1,5 +1,6 @@
 //! The fields of a telegram, each read at the reader's place.
-ghost use Rattle.std.specs.Prelude.{◌≡◌, ◌<◌, ◌≤◌, IfOk};
+ghost use Rattle.std.specs.Prelude.{◌≡◌, ◌<◌, ◌≤◌, IfOk, IsTrue, IsFalse, Ok};
+ghost use Rattle.std.specs.Fn.{FnOnceReturnsAtMut};
 ghost use Rattle.telegram.specs.Decode.{bytes_at, byte_at, cell_at, word_at, byte_up_to, stands as stands_in, map_at, class_at, entry_list, list_at, field, list_field, writes_at, record_at};
 ghost use Rattle.telegram.specs.Records.{decoded, decoded_list, PartOf, PartsOf};
 ghost use Rattle.telegram.specs.Readers.{Reads};
@@ -72,26 +73,18 @@ impl<'a> Reader<'a> {
         Ok(map)
     }
 
-    fn class_field(&mut self, map: u8) -> Result<u8, Refused>
-        ensures { Reads (λ c. c) self.old result self.new (λ t. field map 0 4 (class_at t)) }
+    /// A field: `read` reads it where its bit stands, and else it is `absent` and takes no byte.
+    fn field<V: Copy, F: FnOnce(&mut Reader<'a>) -> Result<V, Refused>>(
+        &mut self,
+        stands: bool,
+        absent: V,
+        read: F,
+    ) -> Result<V, Refused>
+        requires { F.IsAlwaysCallable read }
+        ensures present { IsTrue stands → FnOnceReturnsAtMut F.FnOnce read self.old result self.new }
+        ensures absent { IsFalse stands → (result ≡ Ok absent) × (self.new ≡ self.old) }
     {
-        if has_bit(map, 0) {
-            self.byte_up_to(7, Refusal::BadClass)
-        } else {
-            Ok(4)
-        }
-    }
-
-    fn code_field(&mut self, map: u8) -> Result<u8, Refused>
-        ensures { Reads (λ c. c) self.old result self.new (λ t. field map 1 1 (byte_at t)) }
-    {
-        if has_bit(map, 1) { self.byte() } else { Ok(1) }
-    }
-
-    fn argument_field(&mut self, map: u8) -> Result<u32, Refused>
-        ensures { Reads (λ a. a) self.old result self.new (λ t. field map 2 0 (word_at t)) }
-    {
-        if has_bit(map, 2) { self.word() } else { Ok(0) }
+        if stands { read(self) } else { Ok(absent) }
     }
 
     /// The entries of a list. A repeated cell is refused as soon as both its bytes have come.
@@ -127,6 +120,8 @@ impl<'a> Reader<'a> {
         self.entries(count)
     }
 
+    /// The list of a bit; without it the list is empty.
+    // Not by `field`: a closure that gives a part of the telegram gets no proof.
     fn list_field(&mut self, map: u8, bit: u8) -> Result<CellList<'a>, Refused>
         requires { bit < 8 }
         ensures part { IfOk result (PartOf self.old.bytes.now) }
@@ -159,9 +154,11 @@ impl<'a> Reader<'a> {
         ensures value { Reads decoded self.old result self.new record_at }
     {
         let map = self.map_byte()?;
-        let class = self.class_field(map)?;
-        let code = self.code_field(map)?;
-        let argument = self.argument_field(map)?;
+        let class = self.field(has_bit(map, 0), 4, |reader| {
+            reader.byte_up_to(7, Refusal::BadClass)
+        })?;
+        let code = self.field(has_bit(map, 1), 1, |reader| reader.byte())?;
+        let argument = self.field(has_bit(map, 2), 0, |reader| reader.word())?;
         let reads = self.list_field(map, 3)?;
         let writes = self.writes_field(map, reads)?;
         Ok(Record {

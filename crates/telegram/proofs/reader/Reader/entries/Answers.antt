@@ -43,5 +43,5 @@ loop-preserved c =
       seen_all = omega (arith, i.seen_all);
       passed = omega (arith, w.1, i.passed);
       shows = part_more t from (length before) c.loop.self.place c.cell.new.self.place x before _ i.passed v i.shows a;
-      rest = entries_more c.args.count before _ t c.loop.self.place c.cell.new.self.place x _ l v (taken before x ok).0 a i.rest
+      rest = entries_more c.args.count before _ t c.loop.self.place c.cell.new.self.place x _ l v (taken before x ok).0 a i.rest;
     }

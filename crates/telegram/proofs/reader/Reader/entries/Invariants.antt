@@ -10,5 +10,5 @@ invariant-loop l = record {
   seen_all : length (listed l.seen) ≡ l.counter;
   passed : l.self.place ≡ l.from + 2 * length (listed l.seen);
   shows : listed l.seen ≡ cells_of (take (l.self.place - l.from) (drop l.from l.fn.self.bytes.now));
-  rest : entries_at (l.count - length (listed l.seen)) (listed l.seen) l.fn.self.bytes.now l.self.place ≡ entries_at l.count [] l.fn.self.bytes.now l.from
+  rest : entries_at (l.count - length (listed l.seen)) (listed l.seen) l.fn.self.bytes.now l.self.place ≡ entries_at l.count [] l.fn.self.bytes.now l.from;
 }
