@@ -12,13 +12,15 @@ pub struct CellList<'a> {
     pub place: usize,
 }
 
-impl CellList<'_> {
-    /// The cells of the entries, refused as `Cells` refuses them.
-    pub fn cells(&self) -> Result<Cells, ListRefusal>
-        ensures { held_cells result ≡ gathered [] (cells_of self.now.entries.now) }
-    {
+/// The cells of the entries, refused as `Cells` refuses them.
+impl TryFrom<CellList<'_>> for Cells {
+    type Error = ListRefusal;
+
+    ghost try_from_gives = { λ list r. held_cells r ≡ gathered [] (cells_of list.entries.now) };
+
+    fn try_from(list: CellList<'_>) -> Result<Cells, ListRefusal> {
         let mut cells = Cells::new();
-        let mut left = self.entries;
+        let mut left = list.entries;
         while let [high, low, rest @ ..] = left {
             cells.push(u16::from_be_bytes([*high, *low]))?;
             left = rest;

@@ -3,7 +3,7 @@ ghost use Rattle.telegram.specs.Records.{decoded, held_order, order_in};
 
 use super::list::CellList;
 use super::refusal::Refusal;
-use order::Order;
+use order::{Cells, Order};
 
 /// One order of a telegram, with its lists as parts of the telegram.
 #[derive(Clone, Copy)]
@@ -15,20 +15,22 @@ pub struct Record<'a> {
     pub writes: CellList<'a>,
 }
 
-impl Record<'_> {
-    /// The order by itself. No record that a reader accepts is refused here.
-    pub fn order(&self) -> Result<Order, Refusal>
-        ensures { held_order result ≡ order_in (decoded self.now) }
-    {
-        if self.class > 7 {
+/// The order by itself. No record that a reader accepts is refused here.
+impl TryFrom<Record<'_>> for Order {
+    type Error = Refusal;
+
+    ghost try_from_gives = { λ d r. held_order r ≡ order_in (decoded d) };
+
+    fn try_from(fields: Record<'_>) -> Result<Order, Refusal> {
+        if fields.class > 7 {
             return Err(Refusal::BadClass);
         }
-        let reads = self.reads.cells()?;
-        let writes = self.writes.cells()?;
+        let reads = Cells::try_from(fields.reads)?;
+        let writes = Cells::try_from(fields.writes)?;
         Ok(Order {
-            class: self.class,
-            code: self.code,
-            argument: self.argument,
+            class: fields.class,
+            code: fields.code,
+            argument: fields.argument,
             reads,
             writes,
         })

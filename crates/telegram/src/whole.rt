@@ -13,7 +13,7 @@ fn next_order(reader: &mut Reader) -> Result<Order, Refused>
 {
     let place = reader.place();
     let record = reader.next_record()?;
-    match record.order() {
+    match Order::try_from(record) {
         Ok(order) => Ok(order),
         Err(refusal) => Err(Refused { refusal, place }),
     }

@@ -1,7 +1,7 @@
 use Rattle.std.proofs.Common.{◌≤◌, length, rules}
 use Rattle.order.specs.Orders.{listed}
 use Rattle.telegram.proofs.Bytes.{cells_again}
-use Rattle.telegram.proofs.list.CellList.cells.Goals as goal
+use Rattle.telegram.proofs.list.CellsTryFromCellList.try_from.Goals as goal
 
 pub loop-left-preserved : goal.loop-left-preserved
 loop-left-preserved c =
