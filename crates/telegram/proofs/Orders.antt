@@ -1,13 +1,12 @@
 -- Facts on the orders of accepted records, one by one and of a whole telegram.
-use Rattle.std.proofs.Common.{◌≡◌, ℕ, suc, ◌+◌, ◌-◌, ◌<◌, ◌≤◌, Bool, true, false, cond, ltb, List, [], ◌∷◌, ◌++◌, map, length, take, drop, set, Ok, Err, sym, refl, ap, ◌∙◌, arith, ltb-false}
-use Rattle.std.proofs.lemmas.List.{take-append-drop, append_assoc, append-nil, map-append, length-map, length-take-le, take_more_set, drop-set-lt, drop-drop, drop-map}
+use Rattle.std.proofs.Common.{◌≡◌, ℕ, suc, ◌+◌, ◌-◌, ◌<◌, ◌≤◌, false, ltb, List, [], ◌∷◌, ◌++◌, map, length, take, drop, set, Ok, Err, sym, refl, ap, ◌∙◌, arith}
+use Rattle.std.proofs.lemmas.List.{append_assoc, append-nil, map-append, length-map, take_more_set, take_all, drop-map}
 use Rattle.std.proofs.lemmas.Bool.Decides.{nat_tests}
 use Rattle.order.specs.declared.stock.Order.{Order}
 use Rattle.order.specs.Orders.{StockOrder, stock_order}
 use Rattle.order.proofs.Gather.{gathered_fits}
 use Rattle.telegram.specs.declared.refusal.Refusal.{Refusal}
-use Rattle.telegram.specs.declared.refusal.Refusal.TheVariants.{TooManyOrders}
-use Rattle.telegram.specs.Decode.{Read, got, refused, next, DecodedOrder, byte_at, order_of, record_at, records_at, count_at, end_at}
+use Rattle.telegram.specs.Decode.{Read, got, refused, next, DecodedOrder, order_of, record_at, records_at, end_at}
 use Rattle.telegram.specs.Laws.{SoundOrder}
 use Rattle.telegram.specs.Records.{order_in}
 use Rattle.telegram.specs.Whole.{order_at}
@@ -66,17 +65,6 @@ remaining_stop m t p r xs e h = step (record_at t p) h
     step (refused f z) h = cc
     step (got d z) h = let y : ◌≡◌ {A = ℕ} 0 1 = cc in absurd (omega arith)
 
-pub count_few : (t : List ℕ) (p q n : ℕ) → got n q ≡ count_at t p → n ≤ 64
-count_few t p q n e = by_byte (byte_at t p) e
-  where
-    by_test : (b : Bool) (v z : ℕ) → (b ≡ false → v ≤ 64) → got n q ≡ cond b (refused TooManyOrders p) (got v z) → n ≤ 64
-    by_test true v z h e = let y : ◌≡◌ {A = ℕ} 0 1 = cc in absurd (omega arith)
-    by_test false v z h e = let same : n ≡ v = cc in rw same (h refl)
-
-    by_byte : (w : Read ℕ) → got n q ≡ next w (λ v z. cond (ltb 64 v) (refused TooManyOrders p) (got v z)) → n ≤ 64
-    by_byte (refused f z) e = let y : ◌≡◌ {A = ℕ} 0 1 = cc in absurd (omega arith)
-    by_byte (got v z) e = by_test (ltb 64 v) v z (λ y. ltb-false 64 v y) e
-
 -- a turn of the loop over a table of orders
 pub table_again : (n k : ℕ) (t : List ℕ) (p q : ℕ) (table : List Order) (o : Order) (d : Read (List StockOrder)) → k < n → k < length table → got (stock_order o) q ≡ order_at t p
     → remaining (n - k) t p (map stock_order (take k table)) ≡ d → remaining (n - (k + 1)) t q (map stock_order (take (k + 1) (set table k o))) ≡ d
@@ -92,22 +80,15 @@ table_stop n k t p r xs e d l h i =
     let s : n - k ≡ suc (n - (k + 1)) = omega arith in
     sym (rw s at i) ∙ remaining_stop (n - (k + 1)) t p r xs e h
 
-pub rest_again : (k : ℕ) (table old : List Order) (o : Order) → drop k table ≡ drop k old → drop (k + 1) (set table k o) ≡ drop (k + 1) old
-rest_again k table old o h = drop-set-lt (k + 1) table k o (omega arith) ∙ (sym (drop-drop 1 k table) ∙ (ap (drop 1) h ∙ drop-drop 1 k old))
-
--- the table at the end
-pub table_read : (n k : ℕ) (t : List ℕ) (p : ℕ) (table : List Order) (d : Read (List StockOrder)) → n ≤ k → k ≤ n → got (tt {0}) p ≡ end_at t p
-    → remaining (n - k) t p (map stock_order (take k table)) ≡ d → d ≡ got (map stock_order (take n table)) p
-table_read n k t p table d l m e i =
+-- the table at the end, whose first places hold the orders that were read
+pub table_read : (n k : ℕ) (t : List ℕ) (p : ℕ) (items : List Order) (d : Read (List StockOrder)) → length items ≡ n → length items ≤ k → k ≤ n → got (tt {0}) p ≡ end_at t p
+    → remaining (n - k) t p (map stock_order (take k items)) ≡ d → d ≡ got (map stock_order items) p
+table_read n k t p items d len l m e i =
     let s : n - k ≡ 0 = omega arith in
-    let kn : k ≡ n = omega arith in
-    sym (rw s at i) ∙ (ap (λ (w : Read (Unit {0})). next w (λ _ r. got (map stock_order (take k table) ++ []) r)) (sym e) ∙ rw (append-nil (map stock_order (take k table)), kn))
+    let all : take k items ≡ items = take_all k items l in
+    sym (rw s at i) ∙ (ap (λ (w : Read (Unit {0})). next w (λ _ r. got (map stock_order (take k items) ++ []) r)) (sym e) ∙ rw (append-nil (map stock_order (take k items)), all))
 
-pub table_count : (n : ℕ) (table : List Order) → n ≤ length table → length (map stock_order (take n table)) ≡ n
-table_count n table l = length-map (take n table) stock_order ∙ length-take-le n table l
-
-pub table_whole : (n : ℕ) (table old : List Order) → n ≤ length table → drop n table ≡ drop n old → map stock_order table ≡ map stock_order (take n table) ++ drop (length (map stock_order (take n table))) (map stock_order old)
-table_whole n table old l h =
-    let m = table_count n table l in
-    ap (map stock_order) (sym (take-append-drop n table)) ∙ (map-append stock_order (take n table) (drop n table)
-    ∙ ap (λ (r : List StockOrder). map stock_order (take n table) ++ r) (ap (map stock_order) h ∙ (sym (drop-map stock_order n old) ∙ ap (λ j. drop j (map stock_order old)) (sym m))))
+pub table_whole : (n : ℕ) (items old : List Order) → length items ≡ n → map stock_order (items ++ drop n old) ≡ map stock_order items ++ drop (length (map stock_order items)) (map stock_order old)
+table_whole n items old l =
+    let m : length (map stock_order items) ≡ n = length-map items stock_order ∙ l in
+    map-append stock_order items (drop n old) ∙ ap (λ (r : List StockOrder). map stock_order items ++ r) (sym (drop-map stock_order n old) ∙ ap (λ j. drop j (map stock_order old)) (sym m))

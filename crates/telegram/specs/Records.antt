@@ -26,9 +26,6 @@ seen_by f (Err e) q = refused e.refusal e.place
 abbrev pub seen : {V : Type 0} → Result V Refused → ℕ → Read V
 seen r q = seen_by (λ v. v) r q
 
-abbrev pub seen_list : Result CellList Refused → ℕ → Read DecodedList
-seen_list r q = seen_by decoded_list r q
-
 abbrev pub seen_record : Result Record Refused → ℕ → Read DecodedOrder
 seen_record r q = seen_by decoded r q
 

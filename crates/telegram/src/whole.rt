@@ -29,8 +29,8 @@ pub fn decode(bytes: &[u8], orders: &mut [Order; 64]) -> Result<usize, Refused>
     let mut table = *orders;
     let mut reader = Reader::new(bytes);
     let count = usize::from(reader.count()?);
-    for k in 0..count {
-        table[k] = next_order(&mut reader)?;
+    for place in table[..count].iter_mut() {
+        *place = next_order(&mut reader)?;
     }
     reader.end()?;
     *orders = table;
