@@ -1,5 +1,5 @@
 -- Facts on the orders of accepted records, one by one and of a whole telegram.
-use Rattle.std.proofs.Common.{◌≡◌, ℕ, suc, ◌+◌, ◌-◌, ◌<◌, ◌≤◌, false, ltb, List, [], ◌∷◌, ◌++◌, map, length, take, drop, set, Ok, Err, sym, refl, ap, ◌∙◌, arith}
+use Rattle.std.proofs.Common.{◌≡◌, ℕ, suc, ◌+◌, ◌-◌, ◌<◌, ◌≤◌, false, ltb, List, [], ◌∷◌, ◌++◌, map, length, take, drop, set, Ok, Err, Result, MatchResult, sym, refl, ap, ◌∙◌, arith}
 use Rattle.std.proofs.lemmas.List.{append_assoc, append-nil, map-append, length-map, take_more_set, take_all, drop-map}
 use Rattle.std.proofs.lemmas.Bool.Decides.{nat_tests}
 use Rattle.order.specs.declared.stock.Order.{Order}
@@ -8,7 +8,8 @@ use Rattle.order.proofs.Gather.{gathered_fits}
 use Rattle.telegram.specs.declared.refusal.Refusal.{Refusal}
 use Rattle.telegram.specs.Decode.{Read, got, refused, next, DecodedOrder, order_of, record_at, records_at, end_at}
 use Rattle.telegram.specs.Laws.{SoundOrder}
-use Rattle.telegram.specs.Records.{order_in}
+use Rattle.telegram.specs.declared.refusal.Refused.{Refused}
+use Rattle.telegram.specs.Records.{held_order, order_in, seen_by}
 use Rattle.telegram.specs.Whole.{order_at}
 use Rattle.telegram.proofs.Sound.{good_record, good_got}
 
@@ -23,17 +24,23 @@ order_sound d s =
 sound_at : (t : List ℕ) (p q : ℕ) (d : DecodedOrder) → p ≤ length t → got d q ≡ record_at t p → SoundOrder d
 sound_at t p q d l e = (good_got t p p 1 SoundOrder (λ u. record_at u p) (record_at t p) d q (good_record t p l) (sym e)).2
 
-pub order_read : (t : List ℕ) (p q : ℕ) (d : DecodedOrder) (o : StockOrder) → p ≤ length t → got d q ≡ record_at t p → Ok o ≡ order_in d → got o q ≡ order_at t p
+order_read : (t : List ℕ) (p q : ℕ) (d : DecodedOrder) (o : StockOrder) → p ≤ length t → got d q ≡ record_at t p → Ok o ≡ order_in d → got o q ≡ order_at t p
 order_read t p q d o l e h =
     let s = order_sound d (sound_at t p q d l e) in
     let same : o ≡ order_of d = cc in
     rw (sym e, same)
 
-pub order_kept : (t : List ℕ) (p q : ℕ) (d : DecodedOrder) (e : Refusal) → p ≤ length t → got d q ≡ record_at t p → Err e ≡ order_in d → ⊥
+order_kept : (t : List ℕ) (p q : ℕ) (d : DecodedOrder) (e : Refusal) → p ≤ length t → got d q ≡ record_at t p → Err e ≡ order_in d → ⊥
 order_kept t p q d e l g h =
     let s = order_sound d (sound_at t p q d l g) in
     let z : ◌≡◌ {A = ℕ} 0 1 = cc in
     omega arith
+
+-- a sound record's order is the answer, whatever a refusal would have become
+pub order_taken : (t : List ℕ) (p q : ℕ) (d : DecodedOrder) (x : Result Order Refusal) (y : Result Order Refused) (Otherwise : Refusal → Type 0) → p ≤ length t → got d q ≡ record_at t p → held_order x ≡ order_in d
+    → MatchResult x (λ o. y ≡ Ok o) Otherwise → seen_by stock_order y q ≡ order_at t p
+order_taken t p q d (Ok o) y Otherwise l e h m = rw m (order_read t p q d (stock_order o) l e h)
+order_taken t p q d (Err r) y Otherwise l e h m = absurd (order_kept t p q d r l e h)
 
 -- n records from p on and the end, after the orders xs
 abbrev pub remaining : ℕ → List ℕ → ℕ → List StockOrder → Read (List StockOrder)

@@ -13,10 +13,7 @@ fn next_order(reader: &mut Reader) -> Result<Order, Refused>
 {
     let place = reader.place();
     let record = reader.next_record()?;
-    match Order::try_from(record) {
-        Ok(order) => Ok(order),
-        Err(refusal) => Err(Refused { refusal, place }),
-    }
+    Order::try_from(record).map_err(|refusal| refusal.at(place))
 }
 
 /// Decodes a whole telegram into the first places of the table, and answers how many orders it has.
