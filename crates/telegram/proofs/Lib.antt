@@ -1,4 +1,4 @@
 mod Bytes
 mod Entries
 mod Sound
-mod Orders
+pub mod Orders

@@ -2,11 +2,14 @@
 use Rattle.std.specs.Prelude.{ℕ, List, ◌++◌, map, length, drop, Ok, Err, Result}
 use Rattle.order.specs.Orders.{StockOrder}
 use Rattle.telegram.specs.declared.refusal.Refused.{Refused}
-use Rattle.telegram.specs.Decode.{Read, got, refused, next, order_of, record_at, telegram_of}
+use Rattle.telegram.specs.Decode.{Read, got, refused, next, order_of, record_at, records_at, telegram_of}
 
 -- the orders by themselves
 abbrev pub order_at : List ℕ → ℕ → Read StockOrder
 order_at t p = next (record_at t p) (λ d q. got (order_of d) q)
+
+abbrev pub orders_at : ℕ → List ℕ → ℕ → Read (List StockOrder)
+orders_at n t p = next (records_at n t p) (λ ds q. got (map order_of ds) q)
 
 abbrev pub orders_of : List ℕ → Read (List StockOrder)
 orders_of t = next (telegram_of t) (λ ds q. got (map order_of ds) q)

@@ -1,7 +1,7 @@
-ghost use Rattle.std.specs.Prelude.{◌≡◌, ◌≤◌, map, drop, IfOk};
+ghost use Rattle.std.specs.Prelude.{◌≡◌, ◌≤◌, map, drop, length, IfOk};
 ghost use Rattle.order.specs.Orders.{stock_order};
 ghost use Rattle.telegram.specs.Records.{seen_by};
-ghost use Rattle.telegram.specs.Whole.{order_at, orders_of, counted, tabled, filled};
+ghost use Rattle.telegram.specs.Whole.{order_at, orders_at, orders_of, counted, tabled, filled};
 
 use super::reader::Reader;
 use super::refusal::Refused;
@@ -17,6 +17,19 @@ fn next_order(reader: &mut Reader) -> Result<Order, Refused>
 }
 
 /// Decodes a whole telegram into the first places of the table, and answers how many orders it has.
+/// Decodes as many orders as there are places for.
+fn next_orders(reader: &mut Reader, places: &mut [Order]) -> Result<(), Refused>
+    ensures same { reader.new.bytes.now ≡ reader.old.bytes.now }
+    ensures value { seen_by (λ _. map stock_order places.new) result reader.new.place ≡ orders_at (length places.old) reader.old.bytes.now reader.old.place }
+{
+    for place in places.iter_mut() {
+        *place = next_order(reader)?;
+    }
+    Ok(())
+}
+
+/// Decodes a whole telegram into the first places of the table, and answers how many orders it has.
+#[tactic(auto, using(crate::proofs::Orders::orders_in_turn))]
 pub fn decode(bytes: &[u8], orders: &mut [Order; 64]) -> Result<usize, Refused>
     ensures few { IfOk result (λ n. n ≤ 64) }
     ensures answer { result ≡ counted (orders_of bytes.now) }
@@ -26,9 +39,7 @@ pub fn decode(bytes: &[u8], orders: &mut [Order; 64]) -> Result<usize, Refused>
     let mut table = *orders;
     let mut reader = Reader::new(bytes);
     let count = usize::from(reader.count()?);
-    for place in table[..count].iter_mut() {
-        *place = next_order(&mut reader)?;
-    }
+    next_orders(&mut reader, &mut table[..count])?;
     reader.end()?;
     *orders = table;
     Ok(count)

@@ -87,6 +87,26 @@ impl<'a> Reader<'a> {
         if stands { read(self) } else { Ok(absent) }
     }
 
+    fn class_field(&mut self, map: u8) -> Result<u8, Refused>
+        ensures { Reads (λ c. c) self.old result self.new (λ t. field map 0 4 (class_at t)) }
+    {
+        self.field(has_bit(map, 0), 4, |reader| {
+            reader.byte_up_to(7, Refusal::BadClass)
+        })
+    }
+
+    fn code_field(&mut self, map: u8) -> Result<u8, Refused>
+        ensures { Reads (λ c. c) self.old result self.new (λ t. field map 1 1 (byte_at t)) }
+    {
+        self.field(has_bit(map, 1), 1, |reader| reader.byte())
+    }
+
+    fn argument_field(&mut self, map: u8) -> Result<u32, Refused>
+        ensures { Reads (λ a. a) self.old result self.new (λ t. field map 2 0 (word_at t)) }
+    {
+        self.field(has_bit(map, 2), 0, |reader| reader.word())
+    }
+
     /// The entries of a list. A repeated cell is refused as soon as both its bytes have come.
     fn entries(&mut self, count: u8) -> Result<CellList<'a>, Refused>
         requires { count ≤ 8 }
@@ -154,11 +174,9 @@ impl<'a> Reader<'a> {
         ensures value { Reads decoded self.old result self.new record_at }
     {
         let map = self.map_byte()?;
-        let class = self.field(has_bit(map, 0), 4, |reader| {
-            reader.byte_up_to(7, Refusal::BadClass)
-        })?;
-        let code = self.field(has_bit(map, 1), 1, |reader| reader.byte())?;
-        let argument = self.field(has_bit(map, 2), 0, |reader| reader.word())?;
+        let class = self.class_field(map)?;
+        let code = self.code_field(map)?;
+        let argument = self.argument_field(map)?;
         let reads = self.list_field(map, 3)?;
         let writes = self.writes_field(map, reads)?;
         Ok(Record {
