@@ -1,4 +1,4 @@
-use order::{Cells, ListRefusal};
+use order::{Cells, ListRefusal, Order};
 use std::test::Fail;
 use telegram::{CellList, Record, Refusal};
 
@@ -27,15 +27,15 @@ fn a_list_takes_no_cell_twice(rt: HostRuntime) {
 
 #[test]
 fn lists_from_slices(rt: HostRuntime) -> Result<(), Fail> {
-    match Cells::from_slice(&[9, 4, 7]) {
+    match Cells::try_from([9, 4, 7].as_slice()) {
         Ok(cells) => assert!(rt; cells.as_slice() == [9, 4, 7].as_slice()),
         Err(_) => return Err(Fail::new("refused")),
     }
-    match Cells::from_slice(&[9, 4, 9]) {
+    match Cells::try_from([9, 4, 9].as_slice()) {
         Ok(_) => return Err(Fail::new("taken")),
         Err(refusal) => assert_eq!(rt; refusal, ListRefusal::Repeated),
     }
-    match Cells::from_slice(&[1, 2, 3, 4, 5, 6, 7, 8, 9]) {
+    match Cells::try_from([1, 2, 3, 4, 5, 6, 7, 8, 9].as_slice()) {
         Ok(_) => Err(Fail::new("taken")),
         Err(refusal) => {
             assert_eq!(rt; refusal, ListRefusal::TooMany);
@@ -62,18 +62,14 @@ fn order_refusal<'a>(class: u8, reads: &'a [u8], writes: &'a [u8]) -> Option<Ref
         entries: writes,
         place: 0,
     };
-    match (Record {
+    Order::try_from(Record {
         class,
         code: 1,
         argument: 0,
         reads,
         writes,
     })
-    .order()
-    {
-        Ok(_) => None,
-        Err(refusal) => Some(refusal),
-    }
+    .err()
 }
 
 #[test]
