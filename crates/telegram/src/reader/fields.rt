@@ -98,13 +98,13 @@ impl<'a> Reader<'a> {
     fn code_field(&mut self, map: u8) -> Result<u8, Refused>
         ensures { Reads (λ c. c) self.old result self.new (λ t. field map 1 1 (byte_at t)) }
     {
-        self.field(has_bit(map, 1), 1, |reader| reader.byte())
+        self.field(has_bit(map, 1), 1, Reader::byte)
     }
 
     fn argument_field(&mut self, map: u8) -> Result<u32, Refused>
         ensures { Reads (λ a. a) self.old result self.new (λ t. field map 2 0 (word_at t)) }
     {
-        self.field(has_bit(map, 2), 0, |reader| reader.word())
+        self.field(has_bit(map, 2), 0, Reader::word)
     }
 
     /// The entries of a list. A repeated cell is refused as soon as both its bytes have come.
@@ -141,20 +141,16 @@ impl<'a> Reader<'a> {
     }
 
     /// The list of a bit; without it the list is empty.
-    // Not by `field`: a closure that gives a part of the telegram gets no proof.
     fn list_field(&mut self, map: u8, bit: u8) -> Result<CellList<'a>, Refused>
         requires { bit < 8 }
         ensures part { IfOk result (PartOf self.old.bytes.now) }
         ensures value { Reads decoded_list self.old result self.new (λ t. list_field t map bit) }
     {
-        if has_bit(map, bit) {
-            self.list()
-        } else {
-            Ok(CellList {
-                entries: &[],
-                place: self.place,
-            })
-        }
+        let empty = CellList {
+            entries: &[],
+            place: self.place,
+        };
+        self.field(has_bit(map, bit), empty, Reader::list)
     }
 
     fn writes_field(&mut self, map: u8, reads: CellList<'a>) -> Result<CellList<'a>, Refused>

@@ -1,5 +1,7 @@
-ghost use Rattle.std.specs.Prelude.{◌≡◌, IfOk, if◌then◌else◌};
+ghost use Rattle.std.specs.Prelude.{◌≡◌, IfOk, is_ok, if◌then◌else◌};
+ghost use Rattle.std.specs.Fn.{FnOnceReturnsAtMut};
 ghost use Rattle.telegram.specs.Decode.{count_at, record_at, end_at, place_after};
+ghost use Rattle.telegram.specs.declared.reader.Reader.{Reader};
 ghost use Rattle.telegram.specs.Records.{seen, seen_record, PartsOf};
 
 use super::super::record::Record;
@@ -48,15 +50,7 @@ impl<'a> Reader<'a> {
         ensures place { self.new.place ≡ place_after self.old.place (count_at self.old.bytes.now self.old.place) }
         ensures value { seen result self.new.place ≡ count_at self.old.bytes.now self.old.place }
     {
-        let start = *self;
-        let mut rewind = Rewind {
-            reader: self,
-            start,
-            accepted: false,
-        };
-        let count = rewind.reader.byte_up_to(64, Refusal::TooManyOrders)?;
-        rewind.accepted = true;
-        Ok(count)
+        self.all_or_nothing(|reader| reader.byte_up_to(64, Refusal::TooManyOrders))
     }
 
     /// The next order. Where it is refused, the place is that of its first byte again.
@@ -66,15 +60,26 @@ impl<'a> Reader<'a> {
         ensures parts { IfOk result (PartsOf self.old.bytes.now) }
         ensures value { seen_record result self.new.place ≡ record_at self.old.bytes.now self.old.place }
     {
+        self.all_or_nothing(Reader::record)
+    }
+
+    /// Reads by `read`. Where that is refused, the reader stands where it stood.
+    fn all_or_nothing<V, F: FnOnce(&mut Reader<'a>) -> Result<V, Refused>>(
+        &mut self,
+        read: F,
+    ) -> Result<V, Refused>
+        requires { F.IsAlwaysCallable read }
+        ensures { (after : Reader) × FnOnceReturnsAtMut F.FnOnce read self.old result after × (self.new ≡ (if is_ok result then after else self.old)) }
+    {
         let start = *self;
         let mut rewind = Rewind {
             reader: self,
             start,
             accepted: false,
         };
-        let record = rewind.reader.record()?;
-        rewind.accepted = true;
-        Ok(record)
+        let answer = read(rewind.reader);
+        rewind.accepted = answer.is_ok();
+        answer
     }
 
     /// Whether all bytes were read.
