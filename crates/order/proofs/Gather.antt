@@ -1,6 +1,6 @@
 -- Facts on cells that are added one by one.
-use Rattle.std.proofs.Common.{◌≡◌, ℕ, ◌+◌, ◌<◌, ◌≤◌, Bool, true, false, cond, leb, List, [], ◌∷◌, ◌++◌, length, get_or, drop, Ok, Err, Result, sym, refl, ap, ◌∙◌, arith, length-append}
-use Rattle.std.proofs.lemmas.List.{drop_more, drop_all, append_assoc, append-nil}
+use Rattle.std.proofs.Common.{◌≡◌, ℕ, ◌<◌, ◌≤◌, Bool, true, false, cond, leb, List, [], ◌∷◌, ◌++◌, length, Ok, Err, Result, sym, refl, ap, ◌∙◌, arith, length-append}
+use Rattle.std.proofs.lemmas.List.{append_assoc, append-nil}
 use Rattle.std.proofs.lemmas.Bool.Decides.{nat_tests}
 use Rattle.order.specs.declared.refusal.ListRefusal.{ListRefusal}
 use Rattle.order.specs.declared.refusal.ListRefusal.TheVariants.{TooMany, Repeated}
@@ -32,22 +32,6 @@ repeated xs c e l h =
 pub gathered_more : (before after : List ℕ) (c : ℕ) (cs : List ℕ) → Ok tt ≡ addition before c → after ≡ added before c → gathered before (c ∷ cs) ≡ gathered after cs
 gathered_more before after c cs e a =
     ap (λ (r : Result (Unit {0}) ListRefusal). and_then r (gathered (before ++ (c ∷ [])) cs)) (sym e) ∙ ap (λ (l : List ℕ). gathered l cs) (sym (a ∙ (taken before c e).1))
-
--- or refused
-pub gathered_stop : (before : List ℕ) (c : ℕ) (cs : List ℕ) (e : ListRefusal) → Err e ≡ addition before c → gathered before (c ∷ cs) ≡ Err e
-gathered_stop before c cs e h = ap (λ (r : Result (Unit {0}) ListRefusal). and_then r (gathered (before ++ (c ∷ [])) cs)) (sym h)
-
--- the same over a slice, at its i-th cell
-pub gathered_again : (before after xs : List ℕ) (i : ℕ) (g : Result (List ℕ) ListRefusal) → i < length xs → Ok tt ≡ addition before (get_or xs i 0) → after ≡ added before (get_or xs i 0)
-    → gathered before (drop i xs) ≡ g → gathered after (drop (i + 1) xs) ≡ g
-gathered_again before after xs i g l e a h = sym (gathered_more before after (get_or xs i 0) (drop (i + 1) xs) e a) ∙ (rw (drop_more xs i 0 l) at h)
-
-pub gathered_refused : (before xs : List ℕ) (i : ℕ) (e : ListRefusal) (g : Result (List ℕ) ListRefusal) → i < length xs → Err e ≡ addition before (get_or xs i 0)
-    → gathered before (drop i xs) ≡ g → Err e ≡ g
-gathered_refused before xs i e g l r h = sym (gathered_stop before (get_or xs i 0) (drop (i + 1) xs) e r) ∙ (rw (drop_more xs i 0 l) at h)
-
-pub gathered_all : (before xs : List ℕ) (i : ℕ) (g : Result (List ℕ) ListRefusal) → length xs ≤ i → gathered before (drop i xs) ≡ g → Ok before ≡ g
-gathered_all before xs i g l h = rw (drop_all i xs l) at h
 
 -- a list of at most eight different cells is taken whole
 pub gathered_fits : (before xs : List ℕ) → length (before ++ xs) ≤ 8 → different (before ++ xs) ≡ true → gathered before xs ≡ Ok (before ++ xs)

@@ -1,11 +1,10 @@
 -- Facts on lists of cells.
-use Rattle.std.proofs.Common.{◌≡◌, ℕ, ◌+◌, ◌<◌, Bool, true, false, eqb, leb, List, [], ◌∷◌, ◌++◌, length, take, set, Ok, Decides, refl, arith}
+use Rattle.std.proofs.Common.{◌≡◌, ℕ, ◌+◌, ◌<◌, Bool, true, false, eqb, List, [], ◌∷◌, ◌++◌, length, take, set, Decides, refl, arith}
 use Rattle.std.specs.List.{IsAnyAnswer, ContainsAt}
 use Rattle.std.proofs.lemmas.List.Elements.{contains_decides}
 use Rattle.std.proofs.lemmas.Bool.Decides.{same_from_decides, Decides-eqb, Decides-by_or, nat_tests}
-use Rattle.std.proofs.lemmas.List.{take_more_set, length-take-le}
+use Rattle.std.proofs.lemmas.List.{take_more_set}
 use Rattle.order.specs.Cells.{has, different}
-use Rattle.order.specs.Refusals.{addition, added}
 
 pub has_decides : (xs : List ℕ) (c : ℕ) → Decides (has xs c) (ContainsAt xs c)
 has_decides xs c = Decides-by_or (λ x. eqb x c) (λ x. x ≡ c) (λ l. has l c) (λ x. Decides-eqb x c) refl (λ _ _. refl) xs
@@ -50,13 +49,3 @@ lacks_middle (x ∷ xs) c ys d =
 -- the first cells of an array, after one more is put behind them
 pub pushed_fits : (xs : List ℕ) (n c : ℕ) → n < length xs → different (take n xs) ≡ true → has (take n xs) c ≡ false → different (take (n + 1) (set xs n c)) ≡ true
 pushed_fits xs n c l d h = rw (take_more_set xs n c l) (different_push (take n xs) c d h)
-
-pub pushed_answer : (xs : List ℕ) (n c : ℕ) → n < 8 → n < length xs → has (take n xs) c ≡ false → Ok tt ≡ addition (take n xs) c
-pushed_answer xs n c l m h =
-    let e : leb 8 (length (take n xs)) ≡ false = rw (length-take-le n xs (omega arith)) (grind (arith, nat_tests)) in
-    rw (e, h)
-
-pub pushed_after : (xs : List ℕ) (n c : ℕ) → n < 8 → n < length xs → has (take n xs) c ≡ false → take (n + 1) (set xs n c) ≡ added (take n xs) c
-pushed_after xs n c l m h =
-    let e : leb 8 (length (take n xs)) ≡ false = rw (length-take-le n xs (omega arith)) (grind (arith, nat_tests)) in
-    rw (e, h) (take_more_set xs n c m)
