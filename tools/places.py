@@ -13,17 +13,20 @@ import sys
 VERBOSE = '-v' in sys.argv
 TOP = next((a for a in sys.argv[1:] if a != '-v'), '.')
 
-NAMED = [
+FIELDS = [
     ('1 flags in structs', r'^\s+(pub )?\w+: bool,'),
+    ('6 arrays with a count', r'^\s+(pub )?\w+: \[.*; \d+\],'),
+]
+
+NAMED = [
     ('1 refusals in an Option', r'Option<\w*Refusal>'),
     ('1 numbers of refusals or causes', r'\bfn number\('),
-    ('1 results wrapped again by hand', r'^\s*(Ok|Err|Some)\((\w+)\) => (return )?(Ok|Err)\(|^\s*None => Err\(|^\s*if let Err\('),
+    ('1 results wrapped again by hand', r'^\s*(Ok|Err|Some)\((\w+)\) => (return )?(Ok|Err|None|Some)\b|^\s*None => Err\(|^\s*if let Err\('),
     ('3 loops over an index', r'\bfor \w+ in [^{]*\.\.[^{]*\{|\.enumerate\(\)'),
     ('3 while loops', r'\bwhile\b.*\{'),
     ('4 conversions', r'\bfn (number|from_slice|cells|order)\(|\bfn decimal_u'),
     ('4 texts', r'\) -> Result<String, '),
     ('4 derives written by hand', r'\bimpl.* (PartialEq|Eq|PartialOrd|Ord|Clone|Debug|Hash)\b.* for '),
-    ('6 arrays with a count', r'^\s+(slots|items): \[.*; \d+\],'),
     ('6 halving by hand', r'\(high - low\) / 2'),
     ('7 choices by a word', r'\bif same_word\('),
     ('7 pointers to functions, and dyn', r'\bdyn \w|: fn\('),
@@ -59,6 +62,18 @@ def tokens(body):
     body = re.sub(r'b?"[^"]*"|b?\'[^\']\'', '"', body)
     out = re.findall(r'\w+|[^\s\w]', body)
     return ['0' if t[0].isdigit() else 'T' if t[0].isupper() else t for t in out]
+
+
+def fields(path):
+    """The lines of the fields of each struct."""
+    inside = False
+    for number, line in enumerate(open(path).read().split('\n'), 1):
+        if re.match(r'(pub(\(\w+\))? )?struct .*\{$', line):
+            inside = True
+        elif line == '}':
+            inside = False
+        elif inside:
+            yield '%s:%d: %s' % (path, number, line.strip()), line
 
 
 def twins():
@@ -110,8 +125,10 @@ def show(kind, places):
 
 def main():
     lines = [(p, i, l) for p in sources(('src', 'rt')) for i, l in enumerate(open(p).read().split('\n'), 1)]
-    tests = os.path.join(TOP, 'crates/samples')
-    named = [('%s:%d: %s' % (p, i, l.strip()), l) for p, i, l in lines if not p.startswith(tests)]
+    named = [('%s:%d: %s' % (p, i, l.strip()), l) for p, i, l in lines]
+    held = [place for path in sources(('src', 'rt')) for place in fields(path)]
+    for kind, pattern in FIELDS:
+        show(kind, (place for place, line in held if re.search(pattern, line)))
     for kind, pattern in NAMED:
         show(kind, (place for place, line in named if re.search(pattern, line) and not line.lstrip().startswith('//')))
     show('2 functions that are alike', twins())
