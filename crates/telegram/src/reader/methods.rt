@@ -12,6 +12,7 @@ use super::Reader;
 struct Rewind<'r, 'a> {
     reader: &'r mut Reader<'a>,
     start: Reader<'a>,
+    // A flag: a start that is taken away would say less plainly which way the guard ends.
     accepted: bool,
 }
 
