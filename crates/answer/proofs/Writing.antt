@@ -1,6 +1,6 @@
 -- Facts on texts that are written part by part.
-use Rattle.std.proofs.Common.{◌≡◌, ℕ, suc, ◌+◌, ◌<◌, ◌≤◌, List, ◌∷◌, ◌++◌, map, length, get_or, take, drop, Ok, Err, decimal, sym, refl, ap, ◌∙◌, add-one, arith}
-use Rattle.std.proofs.lemmas.List.{append_assoc, append-nil, drop_more, drop_all, take-map, take_at}
+use Rattle.std.proofs.Common.{◌≡◌, ℕ, suc, ◌+◌, ◌<◌, ◌≤◌, List, [], ◌∷◌, ◌++◌, map, length, get_or, take, drop, Ok, Err, decimal, codes, sym, refl, ap, ◌∙◌, add-one, arith, append_assoc}
+use Rattle.std.proofs.lemmas.List.{append-nil, length-map, length-take-le, map-append, take-map, take_at, take_more}
 use Rattle.order.specs.declared.stock.Order.{Order}
 use Rattle.order.specs.Orders.{StockOrder, stock_order}
 use Rattle.telegram.specs.declared.refusal.Refused.{Refused}
@@ -8,28 +8,39 @@ use Rattle.telegram.specs.Decode.{Read, got, refused}
 use Rattle.telegram.specs.Whole.{counted, tabled}
 use Rattle.answer.specs.Texts.{cells_text, order_text, order_texts, accepted_text, decode_text}
 
--- one cell more is written
-pub cells_again : (text more part xs whole : List ℕ) (i : ℕ) → i < length xs → more ≡ text ++ part → part ≡ 32 ∷ decimal (get_or xs i 0)
-    → text ++ cells_text (drop i xs) ≡ whole → more ++ cells_text (drop (i + 1) xs) ≡ whole
-cells_again text more part xs whole i l m p h =
-    let d : text ++ (32 ∷ (decimal (get_or xs i 0) ++ cells_text (drop (i + 1) xs))) ≡ whole = rw (drop_more xs i 0 l) at h in
-    rw (m, p) (append_assoc text (32 ∷ decimal (get_or xs i 0)) (cells_text (drop (i + 1) xs)) ∙ d)
+-- one cell more
+cells_push : (xs : List ℕ) (x : ℕ) → cells_text (xs ++ x ∷ []) ≡ cells_text xs ++ (codes " " ++ decimal x)
+cells_push [] x = ap (λ t. codes " " ++ t) (append-nil (decimal x))
+cells_push (y ∷ ys) x =
+    ap (λ t. codes " " ++ (decimal y ++ t)) (cells_push ys x)
+    ∙ ap (λ t. codes " " ++ t) (sym (append_assoc (decimal y) (cells_text ys) (codes " " ++ decimal x)))
 
-pub cells_all : (text xs whole : List ℕ) (i : ℕ) → length xs ≤ i → text ++ cells_text (drop i xs) ≡ whole → text ≡ whole
-cells_all text xs whole i l h = sym (append-nil text) ∙ (rw (drop_all i xs l) at h)
+pub cells_more : (xs : List ℕ) (i d : ℕ) → i < length xs → cells_text (take (i + 1) xs) ≡ cells_text (take i xs) ++ (codes " " ++ decimal (get_or xs i d))
+cells_more xs i d l = ap cells_text (take_more xs i d l) ∙ cells_push (take i xs) (get_or xs i d)
 
--- one order more is written
-pub orders_again : (text more part whole : List ℕ) (os : List Order) (k : ℕ) (o : Order) → k < length os → o ≡ get_or os k o → more ≡ text ++ part → part ≡ order_text k (stock_order o)
-    → text ++ order_texts k (map stock_order (drop k os)) ≡ whole → more ++ order_texts (k + 1) (map stock_order (drop (k + 1) os)) ≡ whole
-orders_again text more part whole os k o l e m p h =
-    let d : drop k os ≡ o ∷ drop (k + 1) os = drop_more os k o l ∙ ap (λ x. x ∷ drop (k + 1) os) (sym e) in
-    let w : text ++ (order_text k (stock_order o) ++ order_texts (suc k) (map stock_order (drop (k + 1) os))) ≡ whole = rw d at h in
-    let n : k + 1 ≡ suc k = add-one k in
-    rw (m, p) (append_assoc text (order_text k (stock_order o)) (order_texts (k + 1) (map stock_order (drop (k + 1) os)))
-    ∙ (ap (λ j. text ++ (order_text k (stock_order o) ++ order_texts j (map stock_order (drop (k + 1) os)))) n ∙ w))
+-- the line's end after the lists
+pub lists_end : (reads writes : List ℕ) → (codes ", reads" ++ (reads ++ (codes ", writes" ++ writes))) ++ codes "\n" ≡ codes ", reads" ++ (reads ++ (codes ", writes" ++ (writes ++ codes "\n")))
+lists_end reads writes = ap (λ t. codes ", reads" ++ t) (append_assoc reads (codes ", writes" ++ writes) (codes "\n"))
 
-pub orders_all : (text whole : List ℕ) (os : List Order) (k : ℕ) → length os ≤ k → text ++ order_texts k (map stock_order (drop k os)) ≡ whole → text ≡ whole
-orders_all text whole os k l h = sym (append-nil text) ∙ (rw (drop_all k os l) at h)
+zero_plus : (n : ℕ) → 0 + n ≡ n
+zero_plus n = omega arith
+
+-- one order more, whose number is how many there are before it
+orders_push : (k : ℕ) (os : List StockOrder) (o : StockOrder) → order_texts k (os ++ o ∷ []) ≡ order_texts k os ++ order_text (k + length os) o
+orders_push k [] o = append-nil (order_text k o) ∙ ap (λ j. order_text j o) (omega arith)
+orders_push k (p ∷ os) o =
+    ap (λ t. order_text k p ++ t) (orders_push (suc k) os o ∙ ap (λ j. order_texts (suc k) os ++ order_text j o) (omega arith))
+    ∙ sym (append_assoc (order_text k p) (order_texts (suc k) os) (order_text (k + suc (length os)) o))
+
+pub orders_more : (os : List Order) (k : ℕ) (d : Order) → k < length os
+    → accepted_text (map stock_order (take (k + 1) os)) ≡ accepted_text (map stock_order (take k os)) ++ order_text k (stock_order (get_or os k d))
+orders_more os k d l =
+    let n : length (map stock_order (take k os)) ≡ k = length-map (take k os) stock_order ∙ length-take-le k os (omega arith) in
+    let step : map stock_order (take (k + 1) os) ≡ map stock_order (take k os) ++ stock_order (get_or os k d) ∷ [] =
+    ap (map stock_order) (take_more os k d l) ∙ map-append stock_order (take k os) (get_or os k d ∷ []) in
+    ap accepted_text step
+    ∙ ap (λ t. codes "decode: accepted\n" ++ t) (orders_push 0 (map stock_order (take k os)) (stock_order (get_or os k d))
+    ∙ ap (λ j. order_texts 0 (map stock_order (take k os)) ++ order_text j (stock_order (get_or os k d))) (zero_plus (length (map stock_order (take k os))) ∙ n))
 
 -- what the table holds is what was decoded
 pub answer_accepted : (r : Read (List StockOrder)) (n : ℕ) (table : List Order) (old : List StockOrder) → Ok n ≡ counted r → map stock_order table ≡ tabled r old

@@ -1,57 +1,81 @@
-ghost use Rattle.std.specs.Prelude.{◌≡◌, map, IfOk, string_bytes};
-ghost use Rattle.order.specs.Orders.{listed, stock_order};
+ghost use Rattle.std.specs.Prelude.{◌≡◌, map, IfOk, Some, string_bytes};
+ghost use Rattle.order.specs.Orders.{stock_order};
 ghost use Rattle.telegram.specs.Refusals.{number_of};
 ghost use Rattle.telegram.specs.Whole.{orders_of};
-ghost use Rattle.answer.specs.Texts.{cells_text, lists_text, order_text, accepted_text, refused_text, decode_text};
+ghost use Rattle.answer.specs.Texts.{cells_text, order_text, accepted_text, refused_text, decode_text};
 
 use order::Order;
 use std::alloc::{AllocError, Global};
+use std::fmt;
 use telegram::{Refused, decode};
 
-fn cells_text(heap: Global, cells: &[u16]) -> Result<String, AllocError>
-    ensures { IfOk result (λ s. string_bytes s ≡ cells_text cells.now) }
-{
-    let mut text = String::new(heap);
-    for cell in cells {
-        text.push_str(format!(in heap; " {cell}")?.as_str())?;
+/// The cells of a list, each with a space before it.
+#[derive(Clone, Copy)]
+struct CellsOf<'a>(&'a [u16]);
+
+impl fmt::Display for CellsOf<'_> {
+    ghost output = { λ cells. Some (cells_text cells.0.now) };
+
+    #[tactic(auto, using(crate::proofs::Writing::cells_more))]
+    fn fmt<W: fmt::Write>(&self, f: &mut fmt::Formatter<W>) -> fmt::Result {
+        for cell in self.0 {
+            write!(f, " {cell}")?;
+        }
+        Ok(())
     }
-    Ok(text)
 }
 
-fn lists_text(heap: Global, order: &Order) -> Result<String, AllocError>
-    ensures { IfOk result (λ s. string_bytes s ≡ lists_text (listed order.now.reads) (listed order.now.writes)) }
-{
-    let reads = cells_text(heap, order.reads.as_slice())?;
-    let writes = cells_text(heap, order.writes.as_slice())?;
-    format!(in heap; ", reads{reads}, writes{writes}")
+/// The line of an order, and its number in the telegram.
+#[derive(Clone, Copy)]
+struct OrderLine<'a> {
+    number: usize,
+    order: &'a Order,
 }
 
-fn order_text(heap: Global, k: usize, order: &Order) -> Result<String, AllocError>
-    ensures { IfOk result (λ s. string_bytes s ≡ order_text k (stock_order order.now)) }
-{
-    let class = order.class;
-    let code = order.code;
-    let argument = order.argument;
-    let lists = lists_text(heap, order)?;
-    format!(in heap; "order {k}: class {class}, code {code}, argument {argument}{lists}\n")
-}
+impl fmt::Display for OrderLine<'_> {
+    ghost output = { λ line. Some (order_text line.number (stock_order line.order.now)) };
 
-fn accepted_text(heap: Global, orders: &[Order]) -> Result<String, AllocError>
-    ensures { IfOk result (λ s. string_bytes s ≡ accepted_text (map stock_order orders.now)) }
-{
-    let mut text = String::from_str(heap, "decode: accepted\n")?;
-    for (k, order) in orders.iter().enumerate() {
-        text.push_str(order_text(heap, k, order)?.as_str())?;
+    fn fmt<W: fmt::Write>(&self, f: &mut fmt::Formatter<W>) -> fmt::Result {
+        let OrderLine { number, order } = *self;
+        let (class, code, argument) = (order.class, order.code, order.argument);
+        let reads = CellsOf(order.reads.as_slice());
+        let writes = CellsOf(order.writes.as_slice());
+        write!(
+            f,
+            "order {number}: class {class}, code {code}, argument {argument}"
+        )?;
+        writeln!(f, ", reads{reads}, writes{writes}")
     }
-    Ok(text)
 }
 
-fn refused_text(heap: Global, refused: Refused) -> Result<String, AllocError>
-    ensures { IfOk result (λ s. string_bytes s ≡ refused_text (number_of refused.refusal) refused.place) }
-{
-    let number = u8::from(refused.refusal);
-    let place = refused.place;
-    format!(in heap; "decode: refused {number} at {place}\n")
+/// What a telegram of these orders is answered.
+#[derive(Clone, Copy)]
+struct Accepted<'a>(&'a [Order]);
+
+impl fmt::Display for Accepted<'_> {
+    ghost output = { λ orders. Some (accepted_text (map stock_order orders.0.now)) };
+
+    #[tactic(auto, using(crate::proofs::Writing::orders_more))]
+    fn fmt<W: fmt::Write>(&self, f: &mut fmt::Formatter<W>) -> fmt::Result {
+        writeln!(f, "decode: accepted")?;
+        for (number, order) in self.0.iter().enumerate() {
+            write!(f, "{}", OrderLine { number, order })?;
+        }
+        Ok(())
+    }
+}
+
+/// What a refused telegram is answered.
+#[derive(Clone, Copy)]
+struct RefusedTelegram(Refused);
+
+impl fmt::Display for RefusedTelegram {
+    ghost output = { λ x. Some (refused_text (number_of x.0.refusal) x.0.place) };
+
+    fn fmt<W: fmt::Write>(&self, f: &mut fmt::Formatter<W>) -> fmt::Result {
+        let Refused { refusal, place } = self.0;
+        writeln!(f, "decode: refused {} at {place}", u8::from(refusal))
+    }
 }
 
 /// The answer to `decode` with the bytes of a telegram.
@@ -60,7 +84,7 @@ pub fn decode_answer(heap: Global, bytes: &[u8]) -> Result<String, AllocError>
 {
     let mut orders = [Order::plain(); 64];
     match decode(bytes, &mut orders) {
-        Ok(count) => accepted_text(heap, &orders[0..count]),
-        Err(refused) => refused_text(heap, refused),
+        Ok(count) => Accepted(&orders[0..count]).to_string(heap),
+        Err(refused) => RefusedTelegram(refused).to_string(heap),
     }
 }

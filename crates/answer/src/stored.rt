@@ -1,17 +1,29 @@
-ghost use Rattle.std.specs.Prelude.{◌≡◌, IfOk, string_bytes};
+ghost use Rattle.std.specs.Prelude.{◌≡◌, IfOk, Some, string_bytes};
 ghost use Rattle.store.specs.Slices.{refusal_number};
 ghost use Rattle.answer.specs.StoreTexts.{fault_text, cell_text, refusal_text, build_text};
 
 use std::alloc::{AllocError, Global};
+use std::fmt;
 use store::{Fault, Refusal, Store};
 
-fn fault_text(heap: Global, cell: u16, fault: Fault) -> Result<String, AllocError>
-    ensures { IfOk result (λ s. string_bytes s ≡ fault_text cell fault) }
-{
-    let cause = u8::from(fault.cause);
-    let refused = fault.cell;
-    let depth = fault.depth;
-    format!(in heap; "cell {cell}: refused 9, cause {cause}, cell {refused}, depth {depth}\n")
+/// A cell that was asked for, and why the store refuses it.
+#[derive(Clone, Copy)]
+struct RefusedCell {
+    cell: u16,
+    fault: Fault,
+}
+
+impl fmt::Display for RefusedCell {
+    ghost output = { λ x. Some (fault_text x.cell x.fault) };
+
+    fn fmt<W: fmt::Write>(&self, f: &mut fmt::Formatter<W>) -> fmt::Result {
+        let Fault { cause, cell, depth } = self.fault;
+        let (asked, cause) = (self.cell, u8::from(cause));
+        writeln!(
+            f,
+            "cell {asked}: refused 9, cause {cause}, cell {cell}, depth {depth}"
+        )
+    }
 }
 
 /// The answer to `cell`, which asks a store for a cell.
@@ -20,15 +32,20 @@ pub fn cell_answer<S: Store>(heap: Global, store: &S, cell: u16) -> Result<Strin
 {
     match store.read(cell) {
         Ok(value) => format!(in heap; "cell {cell}: {value}\n"),
-        Err(fault) => fault_text(heap, cell, fault),
+        Err(fault) => RefusedCell { cell, fault }.to_string(heap),
     }
 }
 
-fn refusal_text(heap: Global, refusal: Refusal) -> Result<String, AllocError>
-    ensures { IfOk result (λ s. string_bytes s ≡ refusal_text (refusal_number refusal)) }
-{
-    let number = u8::from(refusal);
-    format!(in heap; "store: refused {number}\n")
+/// Why no store was built.
+#[derive(Clone, Copy)]
+struct RefusedStore(Refusal);
+
+impl fmt::Display for RefusedStore {
+    ghost output = { λ x. Some (refusal_text (refusal_number x.0)) };
+
+    fn fmt<W: fmt::Write>(&self, f: &mut fmt::Formatter<W>) -> fmt::Result {
+        writeln!(f, "store: refused {}", u8::from(self.0))
+    }
 }
 
 /// What is said of a store as it is built: nothing, unless it was refused.
@@ -36,7 +53,7 @@ pub fn build_answer(heap: Global, refused: Option<Refusal>) -> Result<String, Al
     ensures { IfOk result (λ s. string_bytes s ≡ build_text refused) }
 {
     match refused {
-        Some(refusal) => refusal_text(heap, refusal),
+        Some(refusal) => RefusedStore(refusal).to_string(heap),
         None => Ok(String::new(heap)),
     }
 }
