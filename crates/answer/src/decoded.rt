@@ -9,14 +9,14 @@ use std::alloc::{AllocError, Global};
 use std::fmt;
 use telegram::{Refused, decode};
 
-/// The cells of a list, each with a space before it.
+/// A list of cells, printed with a space before each.
 #[derive(Clone, Copy)]
 struct CellsOf<'a>(&'a [u16]);
 
 impl fmt::Display for CellsOf<'_> {
     ghost output = { λ cells. Some (cells_text cells.0.now) };
 
-    #[tactic(auto, using(crate::proofs::Writing::cells_more))]
+    #[tactic(auto, using(crate::proofs::Writing::cell_written))]
     fn fmt<W: fmt::Write>(&self, f: &mut fmt::Formatter<W>) -> fmt::Result {
         for cell in self.0 {
             write!(f, " {cell}")?;
@@ -25,7 +25,7 @@ impl fmt::Display for CellsOf<'_> {
     }
 }
 
-/// The line of an order, and its number in the telegram.
+/// An order and its number in the telegram, printed as a line.
 #[derive(Clone, Copy)]
 struct OrderLine<'a> {
     number: usize,
@@ -48,14 +48,13 @@ impl fmt::Display for OrderLine<'_> {
     }
 }
 
-/// What a telegram of these orders is answered.
+/// The orders of a telegram, printed as the answer to it.
 #[derive(Clone, Copy)]
 struct Accepted<'a>(&'a [Order]);
 
 impl fmt::Display for Accepted<'_> {
     ghost output = { λ orders. Some (accepted_text (map stock_order orders.0.now)) };
 
-    #[tactic(auto, using(crate::proofs::Writing::orders_more))]
     fn fmt<W: fmt::Write>(&self, f: &mut fmt::Formatter<W>) -> fmt::Result {
         writeln!(f, "decode: accepted")?;
         for (number, order) in self.0.iter().enumerate() {
@@ -65,12 +64,12 @@ impl fmt::Display for Accepted<'_> {
     }
 }
 
-/// What a refused telegram is answered.
+/// The refusal of a telegram, printed as the answer to it.
 #[derive(Clone, Copy)]
 struct RefusedTelegram(Refused);
 
 impl fmt::Display for RefusedTelegram {
-    ghost output = { λ x. Some (refused_text (number_of x.0.refusal) x.0.place) };
+    ghost output = { λ telegram. Some (refused_text (number_of telegram.0.refusal) telegram.0.place) };
 
     fn fmt<W: fmt::Write>(&self, f: &mut fmt::Formatter<W>) -> fmt::Result {
         let Refused { refusal, place } = self.0;
@@ -79,12 +78,13 @@ impl fmt::Display for RefusedTelegram {
 }
 
 /// The answer to `decode` with the bytes of a telegram.
+#[tactic(auto, using(crate::proofs::Writing::answer_accepted))]
 pub fn decode_answer(heap: Global, bytes: &[u8]) -> Result<String, AllocError>
     ensures { IfOk result (λ s. string_bytes s ≡ decode_text (orders_of bytes.now)) }
 {
     let mut orders = [Order::plain(); 64];
     match decode(bytes, &mut orders) {
-        Ok(count) => Accepted(&orders[0..count]).to_string(heap),
+        Ok(count) => Accepted(&orders[..count]).to_string(heap),
         Err(refused) => RefusedTelegram(refused).to_string(heap),
     }
 }

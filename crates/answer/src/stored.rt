@@ -6,7 +6,7 @@ use std::alloc::{AllocError, Global};
 use std::fmt;
 use store::{Fault, Refusal, Store};
 
-/// A cell that was asked for, and why the store refuses it.
+/// A cell that was asked for and its fault, printed as the answer.
 #[derive(Clone, Copy)]
 struct RefusedCell {
     cell: u16,
@@ -14,14 +14,15 @@ struct RefusedCell {
 }
 
 impl fmt::Display for RefusedCell {
-    ghost output = { λ x. Some (fault_text x.cell x.fault) };
+    ghost output = { λ asked. Some (fault_text asked.cell asked.fault) };
 
     fn fmt<W: fmt::Write>(&self, f: &mut fmt::Formatter<W>) -> fmt::Result {
-        let Fault { cause, cell, depth } = self.fault;
-        let (asked, cause) = (self.cell, u8::from(cause));
+        let RefusedCell { cell, fault } = *self;
+        let cause = u8::from(fault.cause);
+        let (refused, depth) = (fault.cell, fault.depth);
         writeln!(
             f,
-            "cell {asked}: refused 9, cause {cause}, cell {cell}, depth {depth}"
+            "cell {cell}: refused 9, cause {cause}, cell {refused}, depth {depth}"
         )
     }
 }
@@ -36,12 +37,12 @@ pub fn cell_answer<S: Store>(heap: Global, store: &S, cell: u16) -> Result<Strin
     }
 }
 
-/// Why no store was built.
+/// The refusal of a store, printed as a line.
 #[derive(Clone, Copy)]
 struct RefusedStore(Refusal);
 
 impl fmt::Display for RefusedStore {
-    ghost output = { λ x. Some (refusal_text (refusal_number x.0)) };
+    ghost output = { λ store. Some (refusal_text (refusal_number store.0)) };
 
     fn fmt<W: fmt::Write>(&self, f: &mut fmt::Formatter<W>) -> fmt::Result {
         writeln!(f, "store: refused {}", u8::from(self.0))
