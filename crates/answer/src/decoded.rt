@@ -1,8 +1,8 @@
 ghost use Rattle.std.specs.Prelude.{◌≡◌, map, IfOk, Some, string_bytes};
-ghost use Rattle.order.specs.Orders.{stock_order};
+ghost use Rattle.order.specs.Orders.{listed, stock_order};
 ghost use Rattle.telegram.specs.Refusals.{number_of};
 ghost use Rattle.telegram.specs.Whole.{orders_of};
-ghost use Rattle.answer.specs.Texts.{cells_text, order_text, accepted_text, refused_text, decode_text};
+ghost use Rattle.answer.specs.Texts.{cells_text, lists_text, order_text, accepted_text, refused_text, decode_text};
 
 use order::Order;
 use std::alloc::{AllocError, Global};
@@ -25,6 +25,20 @@ impl fmt::Display for CellsOf<'_> {
     }
 }
 
+/// An order, printed as the lists in its line.
+#[derive(Clone, Copy)]
+struct ListsOf<'a>(&'a Order);
+
+impl fmt::Display for ListsOf<'_> {
+    ghost output = { λ order. Some (lists_text (listed order.0.now.reads) (listed order.0.now.writes)) };
+
+    fn fmt<W: fmt::Write>(&self, f: &mut fmt::Formatter<W>) -> fmt::Result {
+        let reads = CellsOf(self.0.reads.as_slice());
+        let writes = CellsOf(self.0.writes.as_slice());
+        write!(f, ", reads{reads}, writes{writes}")
+    }
+}
+
 /// An order and its number in the telegram, printed as a line.
 #[derive(Clone, Copy)]
 struct OrderLine<'a> {
@@ -38,13 +52,11 @@ impl fmt::Display for OrderLine<'_> {
     fn fmt<W: fmt::Write>(&self, f: &mut fmt::Formatter<W>) -> fmt::Result {
         let OrderLine { number, order } = *self;
         let (class, code, argument) = (order.class, order.code, order.argument);
-        let reads = CellsOf(order.reads.as_slice());
-        let writes = CellsOf(order.writes.as_slice());
         write!(
             f,
             "order {number}: class {class}, code {code}, argument {argument}"
         )?;
-        writeln!(f, ", reads{reads}, writes{writes}")
+        writeln!(f, "{}", ListsOf(order))
     }
 }
 
