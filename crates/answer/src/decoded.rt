@@ -52,11 +52,11 @@ impl fmt::Display for OrderLine<'_> {
     fn fmt<W: fmt::Write>(&self, f: &mut fmt::Formatter<W>) -> fmt::Result {
         let OrderLine { number, order } = *self;
         let (class, code, argument) = (order.class, order.code, order.argument);
-        write!(
+        let lists = ListsOf(order);
+        writeln!(
             f,
-            "order {number}: class {class}, code {code}, argument {argument}"
-        )?;
-        writeln!(f, "{}", ListsOf(order))
+            "order {number}: class {class}, code {code}, argument {argument}{lists}"
+        )
     }
 }
 
