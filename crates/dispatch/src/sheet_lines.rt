@@ -1,0 +1,71 @@
+//! The lines of the sheet on standard input.
+ghost use Rattle.std.specs.Prelude.{◌-◌, ◌^◌};
+ghost use Rattle.std.specs.Iterator.{at_most};
+
+use anyhow::anyhow;
+use sheet::{LineError, SheetLine, read_sheet_line, without_end};
+use std::alloc::Global;
+use std::io::BufRead;
+
+/// The lines of a sheet, as an input gives them.
+#[derive(Drop)]
+pub struct SheetLines<R> {
+    heap: Global,
+    input: R,
+    text: Vec<u8>,
+    /// The number of the line that was read last, counted from 1.
+    number: u64,
+}
+
+/// A line, and its number in the sheet.
+#[derive(Drop)]
+pub struct NumberedLine {
+    pub number: u64,
+    pub line: SheetLine,
+}
+
+impl<R: BufRead> SheetLines<R> {
+    pub fn new(heap: Global, input: R) -> SheetLines<R> {
+        SheetLines {
+            heap,
+            input,
+            text: Vec::new(heap),
+            number: 0,
+        }
+    }
+
+    /// Reads the next line, which has this number, unless the input is at its end.
+    fn read_line(&mut self, number: u64) -> anyhow::Result<Option<NumberedLine>> {
+        // Not by `split`, which takes the line feed away: a carriage return ends a line only before one.
+        self.text.clear();
+        if self.input.read_until(b'\n', &mut self.text)? == 0 {
+            return Ok(None);
+        }
+        let line = read_sheet_line(self.heap, without_end(self.text.as_slice())).map_err(
+            |why| error_at(number, why),
+        )?;
+        Ok(Some(NumberedLine { number, line }))
+    }
+}
+
+impl<R: BufRead + Drop> Iterator for SheetLines<R> {
+    type Item = anyhow::Result<NumberedLine>;
+
+    ghost remaining = { λ lines. at_most (2 ^ 64 - 1 - lines.number) };
+
+    fn next(&mut self) -> Option<anyhow::Result<NumberedLine>> {
+        // Nothing says that an input ends, so the numbers of the lines bound what is read of it.
+        let number = self.number.checked_add(1)?;
+        let line = self.read_line(number);
+        self.number = number;
+        line.transpose()
+    }
+}
+
+/// The error of a line with this number.
+pub fn error_at(number: u64, why: LineError) -> anyhow::Error {
+    match why {
+        LineError::NotUnderstood => anyhow!("line {number} is not understood"),
+        LineError::NoMemory => anyhow!("line {number} finds no memory"),
+    }
+}
