@@ -1,29 +1,33 @@
 ghost use Rattle.std.specs.Prelude.{◌≡◌, IfOk, Some, string_bytes};
 ghost use Rattle.store.specs.Slices.{refusal_number};
-ghost use Rattle.answer.specs.StoreTexts.{fault_text, cell_text, refusal_text, build_text};
+ghost use Rattle.answer.specs.StoreTexts.{cell_text, refusal_text, build_text};
 
 use std::alloc::{AllocError, Global};
 use std::fmt;
 use store::{Fault, Refusal, Store};
 
-/// A cell that was asked for and its fault, printed as the answer.
+/// A cell that was asked for and what the store says of it, printed as the answer.
 #[derive(Clone, Copy)]
-struct RefusedCell {
+struct AskedCell {
     cell: u16,
-    fault: Fault,
+    value: Result<u32, Fault>,
 }
 
-impl fmt::Display for RefusedCell {
-    ghost output = { λ asked. Some (fault_text asked.cell asked.fault) };
+impl fmt::Display for AskedCell {
+    ghost output = { λ asked. Some (cell_text asked.cell asked.value) };
 
     fn fmt<W: fmt::Write>(&self, f: &mut fmt::Formatter<W>) -> fmt::Result {
-        let RefusedCell { cell, fault } = *self;
-        let cause = u8::from(fault.cause);
-        let (refused, depth) = (fault.cell, fault.depth);
-        writeln!(
-            f,
-            "cell {cell}: refused 9, cause {cause}, cell {refused}, depth {depth}"
-        )
+        let cell = self.cell;
+        match self.value {
+            Ok(value) => writeln!(f, "cell {cell}: {value}"),
+            Err(fault) => {
+                let (cause, refused, depth) = (u8::from(fault.cause), fault.cell, fault.depth);
+                writeln!(
+                    f,
+                    "cell {cell}: refused 9, cause {cause}, cell {refused}, depth {depth}"
+                )
+            }
+        }
     }
 }
 
@@ -31,10 +35,8 @@ impl fmt::Display for RefusedCell {
 pub fn cell_answer<S: Store>(heap: Global, store: &S, cell: u16) -> Result<String, AllocError>
     ensures { IfOk result (λ s. string_bytes s ≡ cell_text cell (S.Store.at store.now cell)) }
 {
-    match store.read(cell) {
-        Ok(value) => format!(in heap; "cell {cell}: {value}\n"),
-        Err(fault) => RefusedCell { cell, fault }.to_string(heap),
-    }
+    let value = store.read(cell);
+    AskedCell { cell, value }.to_string(heap)
 }
 
 /// The refusal of a store, printed as a line.

@@ -41,9 +41,8 @@ impl<R: BufRead> SheetLines<R> {
         if self.input.read_until(b'\n', &mut self.text)? == 0 {
             return Ok(None);
         }
-        let line = read_sheet_line(self.heap, without_end(self.text.as_slice())).map_err(
-            |why| error_at(number, why),
-        )?;
+        let text = without_end(self.text.as_slice());
+        let line = read_sheet_line(self.heap, text).map_err(|why| error_at(number, why))?;
         Ok(Some(NumberedLine { number, line }))
     }
 }
