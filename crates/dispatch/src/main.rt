@@ -24,8 +24,8 @@ struct Calls<'a, R> {
 impl<R: BufRead + Drop> Calls<'_, R> {
     /// Says whether the store was refused, and answers the calls over the layers that are set up on it.
     fn over_store<S: Store + Drop>(self, built: Built<S>) -> anyhow::Result<()> {
-        self.rt
-            .print(build_answer(self.rt.alloc(), built.refused)?)?;
+        let said = build_answer(self.rt.alloc(), built.refused)?;
+        self.rt.print(said)?;
         match self.setup.window() {
             Some(size) => self.over_window(Window::new(built.store, size.base, size.len)),
             None => self.over_window(built.store),
@@ -49,6 +49,7 @@ impl<R: BufRead + Drop> Calls<'_, R> {
             ..
         } = self;
         let Some(cell) = first else {
+            // The sheet is at its end, and is not read again.
             return Ok(());
         };
         answer_cell(rt, store, cell)?;
