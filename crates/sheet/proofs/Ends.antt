@@ -1,25 +1,46 @@
--- Facts on the last byte of a text.
-use Rattle.std.proofs.Common.{◌≡◌, ℕ, ◌-◌, ◌<◌, Bool, true, false, cond, eqb, List, [], ◌∷◌, length, get_or, take, Some, None, Option, refl, ap, ◌∙◌, arith}
-use Rattle.std.specs.Option.{option_map}
-use Rattle.sheet.specs.Ends.{stripped}
+-- Facts on the last byte of a text. Assumes nothing.
+use Rattle.std.proofs.Common.{◌≡◌, ◌≢◌, ℕ, Bool, true, false, eqb, List, [], ◌∷◌, ◌++◌, Some, None, Option, MatchOption, Bor, sym, refl, ap, eq-eqb, true-eqb}
+use Rattle.std.specs.Option.{option_map, unwrap_or}
+use Rattle.sheet.specs.Ends.{stripped, without_end}
 
--- what a text is without its last byte
-abbrev front : ℕ → List ℕ → ℕ → Option (List ℕ)
-front b xs n = cond (eqb (get_or xs n 0) b) (Some (take n xs)) None
+stripped_push : (b : ℕ) (f : List ℕ) → stripped b (f ++ (b ∷ [])) ≡ Some f
+stripped_push b [] = rw (eq-eqb b b refl)
+stripped_push b (x ∷ []) = ap (option_map (λ t. x ∷ t)) (stripped_push b [])
+stripped_push b (x ∷ y ∷ f) = ap (option_map (λ t. x ∷ t)) (stripped_push b (y ∷ f))
 
-pub stripped_at : (b x : ℕ) (xs : List ℕ) → stripped b (x ∷ xs) ≡ front b (x ∷ xs) (length xs)
-stripped_at b x [] = refl
-stripped_at b x (y ∷ xs) =
-    ap (option_map (λ t. x ∷ t)) (stripped_at b y xs) ∙ under (eqb (get_or (y ∷ xs) (length xs) 0) b)
+stripped_from : (b : ℕ) (s f : List ℕ) → stripped b s ≡ Some f → s ≡ f ++ (b ∷ [])
+stripped_from b [] f e = absurd cc
+stripped_from b (x ∷ []) f e = by_byte (eqb x b) refl
   where
-    under : (r : Bool) → option_map (λ t. x ∷ t) (cond r (Some (take (length xs) (y ∷ xs))) None) ≡ cond r (Some (x ∷ take (length xs) (y ∷ xs))) None
-    under true = refl
-    under false = refl
+    by_byte : (k : Bool) → eqb x b ≡ k → x ∷ [] ≡ f ++ (b ∷ [])
+    by_byte true h = let empty : Some [] ≡ Some f = rw h at e in let same : x ≡ b = true-eqb x b (sym h) in cc
+    by_byte false h = let none : None ≡ Some f = rw h at e in absurd cc
+stripped_from b (x ∷ y ∷ xs) f e = by_rest (stripped b (y ∷ xs)) refl (stripped_from b (y ∷ xs))
+  where
+    by_rest : (o : Option (List ℕ)) → stripped b (y ∷ xs) ≡ o → ((g : List ℕ) → stripped b (y ∷ xs) ≡ Some g → y ∷ xs ≡ g ++ (b ∷ [])) → x ∷ y ∷ xs ≡ f ++ (b ∷ [])
+    by_rest None h next = let none : None ≡ Some f = rw h at e in absurd cc
+    by_rest (Some g) h next = let front : Some (x ∷ g) ≡ Some f = rw h at e in let same : x ∷ g ≡ f = cc in rw (← same) (ap (λ t. x ∷ t) (next g h))
 
-pub stripped_last : (b : ℕ) (xs : List ℕ) → 0 < length xs → stripped b xs ≡ front b xs (length xs - 1)
-stripped_last b [] l = absurd (omega arith)
-stripped_last b (x ∷ xs) l = let n : length xs ≡ length (x ∷ xs) - 1 = omega arith in stripped_at b x xs ∙ ap (front b (x ∷ xs)) n
+-- what `strip_suffix` answers of one byte
+pub stripped_by : (b : ℕ) (s : List ℕ) (r : Option (Bor (List ℕ))) → MatchOption r ((f : List ℕ) → s ≢ f ++ (b ∷ [])) (λ x. s ≡ x.now ++ (b ∷ []))
+    → option_map (λ x. x.now) r ≡ stripped b s
+stripped_by b s (Some x) h = sym (rw h (stripped_push b x.now))
+stripped_by b s None h = by_rest (stripped b s) refl
+  where
+    by_rest : (o : Option (List ℕ)) → stripped b s ≡ o → None ≡ o
+    by_rest None e = refl
+    by_rest (Some f) e = absurd (h f (stripped_from b s f e))
 
-pub stripped_none : (b : ℕ) (xs : List ℕ) → length xs < 1 → None ≡ stripped b xs
-stripped_none b [] l = refl
-stripped_none b (x ∷ xs) l = absurd (omega arith)
+-- a line that ends in a line feed
+pub end_some : (s : List ℕ) (o p : Option (Bor (List ℕ))) (t u : Bor (List ℕ)) → o ≡ Some t → option_map (λ x. x.now) o ≡ stripped 10 s
+    → option_map (λ x. x.now) p ≡ stripped 13 t.now → u ≡ unwrap_or p t → u.now ≡ without_end s
+end_some s o p t u found feed return result =
+    rw (← feed, found, result, ← return) (now_or p)
+  where
+    now_or : (q : Option (Bor (List ℕ))) → (unwrap_or q t).now ≡ unwrap_or (option_map (λ x. x.now) q) t.now
+    now_or None = refl
+    now_or (Some x) = refl
+
+-- a line that does not
+pub end_none : (s : List ℕ) (o : Option (Bor (List ℕ))) → o ≡ None → option_map (λ x. x.now) o ≡ stripped 10 s → s ≡ without_end s
+end_none s o none feed = rw (← feed, none)

@@ -1,5 +1,5 @@
 -- The words of a line. Assumes nothing.
-use Rattle.std.specs.Prelude.{◌≡◌, ℕ, suc, Bool, true, cond, ◌||◌, List, [], ◌∷◌, ◌++◌, Some, None, Option, ◌==◌}
+use Rattle.std.specs.Prelude.{◌≡◌, ℕ, Bool, true, cond, ◌||◌, List, [], ◌∷◌, ◌++◌, Some, None, Option, ◌==◌}
 
 -- a space or a tab, which parts words
 abbrev pub is_blank : ℕ → Bool
@@ -38,30 +38,10 @@ plain_words bs = filled (pieces bs)
 abbrev pub words : List ℕ → List (List ℕ)
 words bs = plain_words (uncommented bs)
 
--- the first of a list, if it has one
-abbrev pub first_of : List (List ℕ) → Option (List ℕ)
-first_of [] = None
-first_of (w ∷ ws) = Some w
-
--- a list without its first
-abbrev pub rest_of : List (List ℕ) → List (List ℕ)
-rest_of [] = []
-rest_of (w ∷ ws) = ws
-
 -- the end of a list, if nothing stands before it
 abbrev pub end_of : List (List ℕ) → Option (Unit {0})
 end_of [] = Some tt
 end_of (w ∷ ws) = None
-
--- a text without the blanks that it begins with
-abbrev pub trimmed : List ℕ → List ℕ
-trimmed [] = []
-trimmed (b ∷ bs) = cond (is_blank b) (trimmed bs) (b ∷ bs)
-
--- how many bytes stand before the first blank
-abbrev pub word_length : List ℕ → ℕ
-word_length [] = 0
-word_length (b ∷ bs) = cond (is_blank b) 0 (suc (word_length bs))
 
 -- what stands after a `#` does not matter
 abbrev pub CommentsDropped : Type 0

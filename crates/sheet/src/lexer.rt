@@ -1,8 +1,9 @@
 //! Cuts a line into its words.
-ghost use Rattle.std.specs.Prelude.{◌≡◌};
-ghost use Rattle.std.specs.Option.{option_map};
-ghost use Rattle.sheet.specs.Ends.{stripped, without_end};
-ghost use Rattle.sheet.specs.Words.{is_blank, is_comment, uncommented, trimmed, word_length, plain_words, first_of, rest_of, end_of};
+ghost use Rattle.std.specs.Prelude.{◌≡◌, ◌≤◌, length};
+ghost use Rattle.std.specs.Iterator.{YieldsFirstBy, item_count};
+ghost use Rattle.std.specs.List.{position_or_len, prefix_len};
+ghost use Rattle.sheet.specs.Ends.{without_end};
+ghost use Rattle.sheet.specs.Words.{is_blank, is_comment, uncommented, plain_words, end_of};
 
 /// The words that are still to come in a text that has no comment.
 #[derive(Drop)]
@@ -18,17 +19,6 @@ impl<'a> Words<'a> {
         Words { rest: text }
     }
 
-    /// The next word, which is then no longer to come.
-    pub fn next(&mut self) -> Option<&'a [u8]>
-        ensures value { option_map (λ x. x.now) result ≡ first_of (plain_words self.old.rest.now) }
-        ensures after { plain_words self.new.rest.now ≡ rest_of (plain_words self.old.rest.now) }
-    {
-        let text = trim_start(self.rest);
-        let (word, rest) = text.split_at(word_len(text));
-        self.rest = rest;
-        if word.is_empty() { None } else { Some(word) }
-    }
-
     /// The end of the words: there is none while a word is to come.
     pub fn end(mut self) -> Option<()>
         ensures { result ≡ end_of (plain_words self.entry.rest.now) }
@@ -40,61 +30,62 @@ impl<'a> Words<'a> {
     }
 }
 
-/// The text without its last byte, if that is `byte`.
-fn strip_last(text: &[u8], byte: u8) -> Option<&[u8]>
-    ensures { option_map (λ x. x.now) result ≡ stripped byte text.now }
-{
-    let [front @ .., last] = text else {
-        return None;
-    };
-    if *last == byte { Some(front) } else { None }
+impl<'a> Iterator for Words<'a> {
+    type Item = &'a [u8];
+
+    ghost next_gives = { YieldsFirstBy (λ word. word.now) (λ words. plain_words words.rest.now) };
+
+    ghost remaining = { item_count (λ words. plain_words words.rest.now) };
+
+    /// The next word, which is then no longer to come.
+    fn next(&mut self) -> Option<&'a [u8]> {
+        let text = &self.rest[blanks_len(self.rest)..];
+        let (word, rest) = text.split_at(word_len(text));
+        self.rest = rest;
+        if word.is_empty() { None } else { Some(word) }
+    }
 }
 
 /// The line without its line feed, and without a carriage return before that.
 pub fn without_end(line: &[u8]) -> &[u8]
     ensures { result.now ≡ without_end line.now }
 {
-    match strip_last(line, b'\n') {
-        Some(text) => strip_last(text, b'\r').unwrap_or(text),
+    match line.strip_suffix(b"\n") {
+        Some(text) => text.strip_suffix(b"\r").unwrap_or(text),
         None => line,
     }
 }
 
 /// The line without its comment.
+#[tactic(auto, using(crate::proofs::Cuts::uncommented_at))]
 pub fn before_comment(text: &[u8]) -> &[u8]
     ensures { result.now ≡ uncommented text.now }
 {
-    for (i, byte) in text.iter().enumerate() {
-        if is_comment(*byte) {
-            return &text[0..i];
-        }
-    }
-    text
+    &text[..comment_start(text)]
 }
 
-/// The text without the blanks that it begins with.
-fn trim_start(text: &[u8]) -> &[u8]
-    ensures { result.now ≡ trimmed text.now }
+/// How many bytes stand before the first `#`.
+fn comment_start(text: &[u8]) -> usize
+    ensures value { result ≡ position_or_len is_comment text.now }
+    ensures bound { result ≤ length text.now }
 {
-    let mut rest = text;
-    while let [first, after @ ..] = rest
-        && is_blank(*first)
-    {
-        rest = after;
-    }
-    rest
+    text.iter().take_while(|byte| !is_comment(**byte)).count()
+}
+
+/// How many blanks the text begins with.
+fn blanks_len(text: &[u8]) -> usize
+    ensures value { result ≡ prefix_len is_blank text.now }
+    ensures bound { result ≤ length text.now }
+{
+    text.iter().take_while(|byte| is_blank(**byte)).count()
 }
 
 /// How many bytes stand before the first blank.
 fn word_len(text: &[u8]) -> usize
-    ensures { result ≡ word_length text.now }
+    ensures value { result ≡ position_or_len is_blank text.now }
+    ensures bound { result ≤ length text.now }
 {
-    for (i, byte) in text.iter().enumerate() {
-        if is_blank(*byte) {
-            return i;
-        }
-    }
-    text.len()
+    text.iter().take_while(|byte| !is_blank(**byte)).count()
 }
 
 /// Whether the byte parts words.

@@ -48,13 +48,12 @@ impl Word for u32 {
 }
 
 /// What the words to come say.
-pub fn read_all<T: Word + Drop>(heap: Global, mut words: Words) -> Result<Vec<T>, LineError>
+pub fn read_all<T: Word + Drop>(heap: Global, words: Words) -> Result<Vec<T>, LineError>
     ensures { Tells vec_items result (all_of T.Word.said (plain_words words.entry.rest.now)) }
 {
     let mut all = Vec::new(heap);
-    while let Some(word) = words.next() {
-        let item = T::from_word(word).ok_or(LineError::NotUnderstood)?;
-        all.push(item)?;
+    for word in words {
+        all.push(T::from_word(word).ok_or(LineError::NotUnderstood)?)?;
     }
     Ok(all)
 }
