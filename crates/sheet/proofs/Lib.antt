@@ -2,4 +2,3 @@ mod Cuts
 mod Digits
 mod Ends
 mod Pieces
-mod Reading

@@ -1,5 +1,6 @@
 -- Bytes written as two hexadecimal digits. Assumes nothing.
 use Rattle.std.specs.Prelude.{ℕ, ◌+◌, ◌-◌, ◌*◌, cond, ◌&&◌, List, [], ◌∷◌, Some, None, Option, nat_le}
+use Rattle.sheet.specs.Words.{all_of}
 
 -- the value of a hexadecimal digit: 0 to 9, a to f or A to F, by their ASCII codes
 abbrev pub hex_digit : ℕ → Option ℕ
@@ -21,13 +22,6 @@ byte_of (h ∷ []) = None
 byte_of (h ∷ l ∷ []) = join_digits (hex_digit h) (hex_digit l)
 byte_of (h ∷ l ∷ m ∷ bs) = None
 
--- a byte in front of the bytes after it, if all are bytes
-abbrev pub put_byte : Option ℕ → Option (List ℕ) → Option (List ℕ)
-put_byte None bs = None
-put_byte (Some b) None = None
-put_byte (Some b) (Some bs) = Some (b ∷ bs)
-
 -- the bytes of words, if each word is a byte
 abbrev pub bytes_of : List (List ℕ) → Option (List ℕ)
-bytes_of [] = Some []
-bytes_of (w ∷ ws) = put_byte (byte_of w) (bytes_of ws)
+bytes_of ws = all_of byte_of ws

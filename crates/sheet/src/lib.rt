@@ -73,7 +73,6 @@ fn read_sentence(heap: Global, verb: &[u8], words: Words) -> Result<Line, LineEr
 }
 
 /// The bytes that the words to come say.
-#[tactic(auto, using(crate::proofs::Reading::bytes_one_by_one))]
 fn read_bytes(heap: Global, words: Words) -> Result<Vec<u8>, LineError>
     ensures { Tells vec_items result (bytes_of (plain_words words.entry.rest.now)) }
 {
