@@ -2,3 +2,4 @@ mod Cuts
 mod Digits
 mod Ends
 mod Pieces
+mod Verbs

@@ -9,7 +9,7 @@ ghost use Rattle.sheet.specs.Words.{plain_words, BlanksPart, CommentsDropped};
 
 use lexer::{Words, before_comment};
 use std::alloc::{AllocFailed, Global};
-use word::{read_all, same_word};
+use word::read_all;
 
 mod decimal;
 mod hex;
@@ -63,21 +63,14 @@ pub fn read_line(heap: Global, text: &[u8]) -> Result<Line, LineError>
 }
 
 /// Reads what the words of a line say: its first, and those that come after it.
+#[tactic(auto, using(crate::proofs::Verbs::six_letters))]
 fn read_sentence(heap: Global, verb: &[u8], words: Words) -> Result<Line, LineError>
     ensures { Tells said_by result (sentence_of (verb.now ∷ plain_words words.entry.rest.now)) }
 {
-    if same_word(verb, b"decode") {
-        return Ok(Line::Decode(read_bytes(heap, words)?));
+    match verb {
+        b"decode" => read_all(heap, words).map(Line::Decode),
+        _ => Err(LineError::NotUnderstood),
     }
-    Err(LineError::NotUnderstood)
-}
-
-/// The bytes that the words to come say.
-fn read_bytes(heap: Global, words: Words) -> Result<Vec<u8>, LineError>
-    ensures { Tells vec_items result (bytes_of (plain_words words.entry.rest.now)) }
-{
-    let bytes: Vec<u8> = read_all(heap, words)?;
-    Ok(bytes)
 }
 
 /// What stands after a `#` does not matter, and a blank that stands in no comment parts the words before it from those

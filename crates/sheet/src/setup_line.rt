@@ -8,7 +8,7 @@ ghost use Rattle.sheet.specs.Words.{plain_words};
 use super::LineError;
 use super::decimal::decimal_u16;
 use super::lexer::Words;
-use super::word::{only_number, read_all, same_word};
+use super::word::{only_number, read_all};
 use std::alloc::Global;
 
 /// Which store the sheet wants.
@@ -44,34 +44,31 @@ pub enum SetupLine {
 pub fn read_setup_line(heap: Global, verb: &[u8], words: Words) -> Result<SetupLine, LineError>
     ensures { Tells piece_said result (piece_of verb.now (plain_words words.entry.rest.now)) }
 {
-    if same_word(verb, b"store") {
-        return Ok(SetupLine::Store(read_store(heap, words)?));
+    match verb {
+        b"store" => read_store(heap, words).map(SetupLine::Store),
+        b"values" => read_all(heap, words).map(SetupLine::Values),
+        b"window" => read_window(words)
+            .map(SetupLine::Window)
+            .ok_or(LineError::NotUnderstood),
+        b"buffer" => words
+            .end()
+            .map(|()| SetupLine::Buffer)
+            .ok_or(LineError::NotUnderstood),
+        _ => Err(LineError::NotUnderstood),
     }
-    if same_word(verb, b"values") {
-        return Ok(SetupLine::Values(read_all(heap, words)?));
-    }
-    if same_word(verb, b"window") {
-        return Ok(SetupLine::Window(read_window(words).ok_or(LineError::NotUnderstood)?));
-    }
-    if same_word(verb, b"buffer") {
-        words.end().ok_or(LineError::NotUnderstood)?;
-        return Ok(SetupLine::Buffer);
-    }
-    Err(LineError::NotUnderstood)
 }
 
 /// The store that the words to come say.
 fn read_store(heap: Global, mut words: Words) -> Result<StoreKind, LineError>
     ensures { Tells store_said result (store_of (plain_words words.entry.rest.now)) }
 {
-    let kind = words.next().ok_or(LineError::NotUnderstood)?;
-    if same_word(kind, b"dense") {
-        return Ok(StoreKind::Dense(only_number(words).ok_or(LineError::NotUnderstood)?));
+    match words.next() {
+        Some(b"dense") => only_number(words)
+            .map(StoreKind::Dense)
+            .ok_or(LineError::NotUnderstood),
+        Some(b"sparse") => read_all(heap, words).map(StoreKind::Sparse),
+        _ => Err(LineError::NotUnderstood),
     }
-    if same_word(kind, b"sparse") {
-        return Ok(StoreKind::Sparse(read_all(heap, words)?));
-    }
-    Err(LineError::NotUnderstood)
 }
 
 /// The window that the words to come say: its base, then its length.

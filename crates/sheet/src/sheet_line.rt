@@ -6,7 +6,7 @@ ghost use Rattle.sheet.specs.Words.{plain_words};
 
 use super::lexer::{Words, before_comment};
 use super::setup_line::{SetupLine, read_setup_line};
-use super::word::{only_number, same_word};
+use super::word::only_number;
 use super::{Line, LineError, read_sentence};
 use std::alloc::Global;
 
@@ -36,11 +36,11 @@ pub fn read_sheet_line(heap: Global, text: &[u8]) -> Result<SheetLine, LineError
 fn read_request(heap: Global, verb: &[u8], words: Words) -> Result<SheetLine, LineError>
     ensures { Tells requested result (request_of (verb.now ∷ plain_words words.entry.rest.now)) }
 {
-    if same_word(verb, b"decode") {
-        return Ok(SheetLine::Plain(read_sentence(heap, verb, words)?));
+    match verb {
+        b"decode" => read_sentence(heap, verb, words).map(SheetLine::Plain),
+        b"cell" => only_number(words)
+            .map(SheetLine::Cell)
+            .ok_or(LineError::NotUnderstood),
+        _ => read_setup_line(heap, verb, words).map(SheetLine::Setup),
     }
-    if same_word(verb, b"cell") {
-        return Ok(SheetLine::Cell(only_number(words).ok_or(LineError::NotUnderstood)?));
-    }
-    Ok(SheetLine::Setup(read_setup_line(heap, verb, words)?))
 }

@@ -66,10 +66,3 @@ pub fn only_number(mut words: Words) -> Option<u16>
     words.end()?;
     decimal_u16(number)
 }
-
-/// Whether the two words are the same. Case matters.
-pub fn same_word(word: &[u8], name: &[u8]) -> bool
-    ensures { result ≡ bytes_eq word.now name.now }
-{
-    word == name
-}
