@@ -9,47 +9,12 @@ pub number_some : (max : ℕ) (w : List ℕ) → 0 < length w → number_of max 
 number_some max [] h = absurd (omega arith)
 number_some max (c ∷ cs) h = refl
 
-pub number_none : (max : ℕ) (w : List ℕ) → length w ≡ 0 → None ≡ number_of max w
-number_none max [] h = refl
-number_none max (c ∷ cs) h = absurd (omega arith)
-
 pub zeros_dropped : ZerosDropped
 zeros_dropped max w h = sym (number_some max w h)
 
--- ---- one digit
+-- ---- past the range
 
-digit_is : (c d : ℕ) → decimal_digit c ≡ Some d → (is_digit c ≡ true) × (d ≡ c - 48)
-digit_is c d e = by_digit (is_digit c) refl
-  where
-    by_digit : (k : Bool) → is_digit c ≡ k → (is_digit c ≡ true) × (d ≡ c - 48)
-    by_digit true h = let s : Some (c - 48) ≡ Some d = rw h at e in (h, cc)
-    by_digit false h = let s : None ≡ Some d = rw h at e in let z : ◌≡◌ {A = ℕ} 0 1 = cc in absurd (omega arith)
-
-digit_not : (c : ℕ) → decimal_digit c ≡ None → is_digit c ≡ false
-digit_not c e = by_digit (is_digit c) refl
-  where
-    by_digit : (k : Bool) → is_digit c ≡ k → is_digit c ≡ false
-    by_digit true h = let s : Some (c - 48) ≡ None = rw h at e in let z : ◌≡◌ {A = ℕ} 0 1 = cc in absurd (omega arith)
-    by_digit false h = h
-
--- ---- a digit of the word is read
-
-pub digits_more : (w : List ℕ) (i n d m : ℕ) → i < length w → decimal_digit (get_or w i 0) ≡ Some d → m ≡ n * 10 + d
-    → digits_after 0 w ≡ digits_after n (drop i w) → digits_after 0 w ≡ digits_after m (drop (i + 1) w)
-digits_more w i n d m h e em inv =
-    let p = digit_is (get_or w i 0) d e in
-    let is : is_digit (get_or w i 0) ≡ true = p.0 in
-    inv ∙ rw (drop_more w i 0 h, is) (ap (λ k. digits_after k (drop (i + 1) w)) (sym (em ∙ ap (λ x. n * 10 + x) p.1)))
-
--- another byte is no number
-pub digits_bad : (max : ℕ) (w : List ℕ) (i n : ℕ) → i < length w → decimal_digit (get_or w i 0) ≡ None
-    → digits_after 0 w ≡ digits_after n (drop i w) → None ≡ number_of max w
-digits_bad max w i n h e inv =
-    let no : is_digit (get_or w i 0) ≡ false = digit_not (get_or w i 0) e in
-    let bad : digits_after 0 w ≡ None = inv ∙ rw (drop_more w i 0 h, no) in
-    sym (number_some max w (omega arith) ∙ ap (up_to max) bad)
-
--- past the range, since digits only make a number larger
+-- digits only make a number larger
 above : (max n : ℕ) (cs : List ℕ) → max < n → up_to max (digits_after n cs) ≡ None
 above max n [] h = grind (arith, nat_tests)
 above max n (c ∷ cs) h = by_digit (is_digit c) refl (above max (n * 10 + (c - 48)) cs (omega arith))
@@ -58,10 +23,14 @@ above max n (c ∷ cs) h = by_digit (is_digit c) refl (above max (n * 10 + (c - 
     by_digit true e next = rw e next
     by_digit false e next = rw e
 
-pub digits_above : (max : ℕ) (w : List ℕ) (i n d : ℕ) → i < length w → decimal_digit (get_or w i 0) ≡ Some d → max < n * 10 + d
+pub digits_above : (max : ℕ) (w : List ℕ) (i n : ℕ) → i < length w → ((d : ℕ) → decimal_digit (get_or w i 0) ≡ Some d → max < n * 10 + d)
     → digits_after 0 w ≡ digits_after n (drop i w) → None ≡ number_of max w
-digits_above max w i n d h e past inv =
-    sym (number_some max w (omega arith) ∙ ap (up_to max) (digits_more w i n d (n * 10 + d) h e refl inv) ∙ above max (n * 10 + d) (drop (i + 1) w) past)
+digits_above max w i n h past inv =
+    sym (number_some max w (omega arith) ∙ ap (up_to max) (inv ∙ ap (digits_after n) (drop_more w i 0 h)) ∙ by_digit (is_digit (get_or w i 0)) refl)
+  where
+    by_digit : (k : Bool) → is_digit (get_or w i 0) ≡ k → up_to max (digits_after n (get_or w i 0 ∷ drop (i + 1) w)) ≡ None
+    by_digit true e = rw e (above max (n * 10 + (get_or w i 0 - 48)) (drop (i + 1) w) (past (get_or w i 0 - 48) (rw e)))
+    by_digit false e = rw e
 
 pub digits_all : (max : ℕ) (w : List ℕ) (i n : ℕ) → 0 < length w → length w ≤ i → n ≤ max
     → digits_after 0 w ≡ digits_after n (drop i w) → Some n ≡ number_of max w

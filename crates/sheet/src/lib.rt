@@ -11,19 +11,17 @@ use lexer::{Words, before_comment};
 use std::alloc::{AllocFailed, Global};
 use word::read_all;
 
-mod decimal;
-mod hex;
 mod lexer;
 mod setup;
 mod setup_line;
 mod sheet_line;
 mod word;
 
-pub use decimal::laws_of_numbers;
 pub use lexer::without_end;
 pub use setup::{Setup, StoreCells, laws_of_setups};
 pub use setup_line::{SetupLine, StoreKind, WindowSize};
 pub use sheet_line::{SheetLine, read_sheet_line};
+pub use word::laws_of_numbers;
 
 /// One line of a run sheet, as understood.
 #[derive(Drop)]

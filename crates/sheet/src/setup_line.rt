@@ -6,9 +6,8 @@ ghost use Rattle.sheet.specs.Setups.{window_of, store_of, piece_of};
 ghost use Rattle.sheet.specs.Words.{plain_words};
 
 use super::LineError;
-use super::decimal::decimal_u16;
 use super::lexer::Words;
-use super::word::{only_number, read_all};
+use super::word::{Word, only_number, read_all};
 use std::alloc::Global;
 
 /// Which store the sheet wants.
@@ -79,7 +78,7 @@ fn read_window(mut words: Words) -> Option<WindowSize>
     let len = words.next()?;
     words.end()?;
     Some(WindowSize {
-        base: decimal_u16(base)?,
-        len: decimal_u16(len)?,
+        base: u16::from_word(base)?,
+        len: u16::from_word(len)?,
     })
 }

@@ -1,14 +1,11 @@
 //! What the words of a line say, each read by one rule.
-ghost use Rattle.std.specs.Prelude.{◌≡◌, ℕ, List, vec_items, Option as Maybe};
-ghost use Rattle.std.specs.Str.{bytes_eq};
-ghost use Rattle.sheet.specs.Bytes.{byte_of};
+ghost use Rattle.std.specs.Prelude.{◌≡◌, ℕ, ◌<◌, ◌≤◌, List, vec_items, Option as Maybe, IfSome};
+ghost use Rattle.sheet.specs.Bytes.{hex_digit, byte_of};
 ghost use Rattle.sheet.specs.Lines.{Tells};
-ghost use Rattle.sheet.specs.Numbers.{number_of, only_number};
+ghost use Rattle.sheet.specs.Numbers.{decimal_digit, number_of, only_number, NumbersReadBack, ZerosDropped};
 ghost use Rattle.sheet.specs.Words.{plain_words, all_of};
 
 use super::LineError;
-use super::decimal::{decimal_u16, decimal_u32};
-use super::hex::hex_byte;
 use super::lexer::Words;
 use std::alloc::Global;
 
@@ -20,12 +17,15 @@ pub trait Word: Sized {
         ensures { result ≡ said word.now };
 }
 
-/// A byte of a telegram, in hexadecimal digits.
+/// A byte of a telegram, in two hexadecimal digits.
 impl Word for u8 {
     ghost said = { byte_of };
 
     fn from_word(word: &[u8]) -> Option<u8> {
-        hex_byte(word)
+        match word {
+            [high, low] => u8::try_from(digit(*high, 16)? * 16 + digit(*low, 16)?).ok(),
+            _ => None,
+        }
     }
 }
 
@@ -34,7 +34,7 @@ impl Word for u16 {
     ghost said = { number_of 65535 };
 
     fn from_word(word: &[u8]) -> Option<u16> {
-        decimal_u16(word)
+        u16::try_from(u32::from_word(word)?).ok()
     }
 }
 
@@ -42,9 +42,28 @@ impl Word for u16 {
 impl Word for u32 {
     ghost said = { number_of 4294967295 };
 
+    // Digit by digit: `parse` would take a sign `+` too.
     fn from_word(word: &[u8]) -> Option<u32> {
-        decimal_u32(word)
+        if word.is_empty() {
+            return None;
+        }
+        let mut number: u32 = 0;
+        for code in word {
+            number = number.checked_mul(10)?.checked_add(digit(*code, 10)?)?;
+        }
+        Some(number)
     }
+}
+
+/// The value of a digit, of either case where it is a letter.
+fn digit(code: u8, radix: u32) -> Option<u32>
+    requires least { 2 ≤ radix }
+    requires most { radix ≤ 36 }
+    ensures decimal { radix ≡ 10 → result ≡ decimal_digit code }
+    ensures hex { radix ≡ 16 → result ≡ hex_digit code }
+    ensures bound { IfSome result (λ d. d < radix) }
+{
+    char::from(code).to_digit(radix)
 }
 
 /// What the words to come say.
@@ -62,7 +81,13 @@ pub fn read_all<T: Word + Drop>(heap: Global, words: Words) -> Result<Vec<T>, Li
 pub fn only_number(mut words: Words) -> Option<u16>
     ensures { result ≡ only_number (plain_words words.entry.rest.now) }
 {
-    let number = words.next()?;
+    let word = words.next()?;
     words.end()?;
-    decimal_u16(number)
+    u16::from_word(word)
 }
+
+/// A number is read back from what is written of it, and a zero in front of it does not matter.
+pub fn laws_of_numbers()
+    ensures back { NumbersReadBack }
+    ensures zeros { ZerosDropped }
+{}

@@ -1,5 +1,5 @@
 use Rattle.sheet.proofs.Digits.{numbers_read_back, zeros_dropped}
-use Rattle.sheet.proofs.decimal.laws_of_numbers.Goals as goal
+use Rattle.sheet.proofs.word.laws_of_numbers.Goals as goal
 
 pub returns : goal.returns
 returns c = record { back = numbers_read_back; zeros = zeros_dropped }
