@@ -1,8 +1,8 @@
 //! What the set-up lines of a sheet said.
-ghost use Rattle.std.specs.Prelude.{◌≡◌, true, is_some, IfOk, if◌then◌else◌, Some};
+ghost use Rattle.std.specs.Prelude.{◌≡◌, IfOk};
 ghost use Rattle.sheet.specs.Requests.{piece_said};
 ghost use Rattle.sheet.specs.Setups.{nothing_yet, store_wanted, cell_count, memory_of, AnyOrder, PlaceForEach, ValuesInOrder};
-ghost use Rattle.sheet.specs.Held.{wanted, shown_store, addition, added, placing};
+ghost use Rattle.sheet.specs.Held.{wanted, shown_store, addition, added};
 
 use super::LineError;
 use super::setup_line::{SetupLine, StoreKind, WindowSize};
@@ -45,11 +45,13 @@ impl Setup {
         ensures after { wanted self.new ≡ added (wanted self.old) (piece_said line) }
     {
         match line {
-            SetupLine::Store(kind) => place_once(&mut self.store, kind),
-            SetupLine::Values(values) => place_once(&mut self.values, values),
-            SetupLine::Window(size) => place_once(&mut self.window, size),
-            SetupLine::Buffer => raise_once(&mut self.buffer),
+            SetupLine::Store(kind) if self.store.is_none() => self.store = Some(kind),
+            SetupLine::Values(values) if self.values.is_none() => self.values = Some(values),
+            SetupLine::Window(size) if self.window.is_none() => self.window = Some(size),
+            SetupLine::Buffer if !self.buffer => self.buffer = true,
+            _ => return Err(LineError::NotUnderstood),
         }
+        Ok(())
     }
 
     /// The store that is wanted: 64 dense cells where no line says another.
@@ -100,30 +102,6 @@ impl StoreCells<'_> {
             StoreCells::Sparse(cells) => cells.len(),
         }
     }
-}
-
-/// Puts a value into a place that has none.
-fn place_once<T: Drop>(place: &mut Option<T>, value: T) -> Result<(), LineError>
-    ensures answer { result ≡ placing (is_some place.old) }
-    ensures after { place.new ≡ (if is_some place.old then place.old else Some value) }
-{
-    if place.is_some() {
-        return Err(LineError::NotUnderstood);
-    }
-    *place = Some(value);
-    Ok(())
-}
-
-/// Raises a flag that is down.
-fn raise_once(flag: &mut bool) -> Result<(), LineError>
-    ensures answer { result ≡ placing flag.old }
-    ensures after { flag.new ≡ true }
-{
-    if *flag {
-        return Err(LineError::NotUnderstood);
-    }
-    *flag = true;
-    Ok(())
 }
 
 /// In which order set-up lines come does not matter; the memory has one place for each cell, with the values in their
