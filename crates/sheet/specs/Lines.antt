@@ -33,3 +33,8 @@ abbrev pub Tells : {V W : Type 0} → (V → W) → Result V LineError → Optio
 Tells f (Ok v) d = d ≡ Some (f v)
 Tells f (Err NotUnderstood) d = d ≡ None
 Tells f (Err NoMemory) d = Unit {0}
+
+-- what is written of a line that was not read, after its number
+abbrev pub text_of : LineError → List ℕ
+text_of NotUnderstood = codes "is not understood"
+text_of NoMemory = codes "finds no memory"

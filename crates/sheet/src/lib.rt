@@ -1,14 +1,15 @@
 //! Reads the lines of a run sheet, and keeps what they set up.
 #![tactic(auto)]
 
-ghost use Rattle.std.specs.Prelude.{◌≡◌, ◌∷◌, vec_items};
+ghost use Rattle.std.specs.Prelude.{◌≡◌, ◌∷◌, Some};
 ghost use Rattle.sheet.specs.declared.LineError.TheVariants.{NoMemory};
-ghost use Rattle.sheet.specs.Bytes.{bytes_of};
-ghost use Rattle.sheet.specs.Lines.{line_of, sentence_of, said_by, Tells};
+ghost use Rattle.sheet.specs.Lines.{text_of, line_of, sentence_of, said_by, Tells};
 ghost use Rattle.sheet.specs.Words.{plain_words, BlanksPart, CommentsDropped};
 
 use lexer::{Words, before_comment};
 use std::alloc::{AllocFailed, Global};
+use std::error::Error;
+use std::fmt;
 use word::read_all;
 
 mod lexer;
@@ -41,11 +42,24 @@ pub enum LineError {
     NoMemory,
 }
 
+impl fmt::Display for LineError {
+    ghost output = { λ why. Some (text_of why) };
+
+    fn fmt<W: fmt::Write>(&self, f: &mut fmt::Formatter<W>) -> fmt::Result {
+        match self {
+            LineError::NotUnderstood => write!(f, "is not understood"),
+            LineError::NoMemory => write!(f, "finds no memory"),
+        }
+    }
+}
+
+impl Error for LineError {}
+
 impl<T: Drop> From<AllocFailed<T>> for LineError {
     ghost from_gives = { λ _ r. r ≡ NoMemory };
 
-    fn from(_back: AllocFailed<T>) -> LineError {
-        LineError::NoMemory
+    fn from(_back: AllocFailed<T>) -> Self {
+        Self::NoMemory
     }
 }
 
