@@ -1,6 +1,6 @@
 -- How the words of a line are cut from its front. Assumes nothing.
-use Rattle.std.proofs.Common.{◌≡◌, ℕ, suc, ◌+◌, ◌<◌, ◌≤◌, Bool, true, false, cond, List, [], ◌∷◌, ◌++◌, length, take, drop, sym, refl, ap, ◌∙◌, arith}
-use Rattle.std.proofs.lemmas.List.{length-take-le}
+use Rattle.std.proofs.Common.{◌≡◌, ℕ, suc, ◌+◌, ◌-◌, ◌<◌, ◌≤◌, Bool, true, false, cond, List, [], ◌∷◌, ◌++◌, length, take, drop, sym, refl, ap, ◌∙◌, arith}
+use Rattle.std.proofs.lemmas.List.{length-take-le, take_rest}
 use Rattle.std.proofs.lemmas.List.Sums.{prefix_len-le-length}
 use Rattle.std.proofs.lemmas.Bool.Decides.{nat_tests}
 use Rattle.std.specs.List.{before_first, prefix_len, position_or_len}
@@ -83,21 +83,24 @@ filled_first : (w : List ℕ) (ps : List (List ℕ)) → 0 < length w → filled
 filled_first [] ps h = absurd (omega arith)
 filled_first (b ∷ bs) ps h = refl
 
-pub next_some : (t s w r : List ℕ) (n : ℕ) → s ≡ drop (prefix_len is_blank t) t → n ≡ position_or_len is_blank s → w ≡ take n s → r ≡ drop n s → 0 < length w
-    → plain_words t ≡ w ∷ plain_words r
-next_some t s w r n es en ew er h =
-    let cut : plain_words s ≡ filled (w ∷ later r) = rw (ew, er, en) (ap filled (pieces_cut s)) in
-    let rest : filled (later r) ≡ plain_words r = rw (er, en) (filled_later s) in
-    sym (plain_words-trimmed t) ∙ ap plain_words (sym es) ∙ cut ∙ filled_first w (later r) h ∙ ap (λ ws. w ∷ ws) rest
+-- m is how many blanks a text begins with, and n how long the word after them is
+pub next_some : (t w r : List ℕ) (m n : ℕ) → m ≡ prefix_len is_blank t → n ≡ position_or_len is_blank (take (length t - m) (drop m t))
+    → w ≡ take n (take (length t - m) (drop m t)) → r ≡ drop n (take (length t - m) (drop m t)) → 0 < length w → plain_words t ≡ w ∷ plain_words r
+next_some t w r m n em en ew er h =
+    let s : take (length t - m) (drop m t) ≡ drop (prefix_len is_blank t) t = take_rest t m ∙ ap (λ k. drop k t) em in
+    let cut : plain_words (drop (prefix_len is_blank t) t) ≡ filled (w ∷ later r) = rw (ew, er, en, s) (ap filled (pieces_cut (drop (prefix_len is_blank t) t))) in
+    let rest : filled (later r) ≡ plain_words r = rw (er, en, s) (filled_later (drop (prefix_len is_blank t) t)) in
+    sym (plain_words-trimmed t) ∙ cut ∙ filled_first w (later r) h ∙ ap (λ ws. w ∷ ws) rest
 
-pub next_none : (t s w r : List ℕ) (n : ℕ) → s ≡ drop (prefix_len is_blank t) t → n ≡ position_or_len is_blank s → w ≡ take n s → r ≡ drop n s → length w ≡ 0
-    → (plain_words t ≡ []) × (plain_words r ≡ [])
-next_none t s w r n es en ew er h =
-    let within : n ≤ length s = rw en (prefix_len-le-length _ s) in
-    let none : position_or_len is_blank s ≡ 0 = omega (arith, ap length ew, length-take-le n s within) in
-    let empty : s ≡ [] = es ∙ trimmed_empty t (rw es at none) in
-    let rest : r ≡ [] = rw (er, en, none) empty in
-    (sym (plain_words-trimmed t) ∙ ap plain_words (sym es ∙ empty), rw rest)
+pub next_none : (t w r : List ℕ) (m n : ℕ) → m ≡ prefix_len is_blank t → n ≡ position_or_len is_blank (take (length t - m) (drop m t))
+    → w ≡ take n (take (length t - m) (drop m t)) → r ≡ drop n (take (length t - m) (drop m t)) → length w ≡ 0 → (plain_words t ≡ []) × (plain_words r ≡ [])
+next_none t w r m n em en ew er h =
+    let s : take (length t - m) (drop m t) ≡ drop (prefix_len is_blank t) t = take_rest t m ∙ ap (λ k. drop k t) em in
+    let within : n ≤ length (take (length t - m) (drop m t)) = rw en (prefix_len-le-length _ (take (length t - m) (drop m t))) in
+    let none : n ≡ 0 = omega (arith, ap length ew, length-take-le n (take (length t - m) (drop m t)) within) in
+    let empty : drop (prefix_len is_blank t) t ≡ [] = trimmed_empty t (rw (← s) (sym en ∙ none)) in
+    let rest : r ≡ [] = rw (er, none, s) empty in
+    (sym (plain_words-trimmed t) ∙ ap plain_words empty, rw rest)
 
 -- ---- blanks
 

@@ -5,6 +5,7 @@ ghost use Rattle.std.specs.List.{position_or_len, prefix_len};
 ghost use Rattle.sheet.specs.Ends.{without_end};
 ghost use Rattle.sheet.specs.Words.{is_blank, is_comment, uncommented, plain_words, end_of};
 
+// A type of its own: `split(..).filter(..)` names its closures, so no function could hand it out.
 /// The words that are still to come in a text that has no comment.
 #[derive(Drop)]
 pub struct Words<'a> {

@@ -70,6 +70,7 @@ fn digit(code: u8, radix: u32) -> Option<u32>
 pub fn read_all<T: Word + Drop>(heap: Global, words: Words) -> Result<Vec<T>, LineError>
     ensures { Tells vec_items result (all_of T.Word.said (plain_words words.entry.rest.now)) }
 {
+    // A loop: what `try_collect` answers is told by a run of the iterator, which is not tied to the words by itself.
     let mut all = Vec::new(heap);
     for word in words {
         all.push(T::from_word(word).ok_or(LineError::NotUnderstood)?)?;

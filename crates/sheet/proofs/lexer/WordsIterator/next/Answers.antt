@@ -1,22 +1,20 @@
-use Rattle.std.proofs.Common.{◌<◌, length, drop, arith, rules, true-eqb, false-eqb, ap, ◌∙◌}
-use Rattle.std.proofs.lemmas.List.{take_rest}
+use Rattle.std.proofs.Common.{◌<◌, length, arith, rules, true-eqb, false-eqb, ap}
 use Rattle.sheet.proofs.Cuts.{next_some, next_none}
 use Rattle.sheet.specs.Words.{plain_words}
 use Rattle.sheet.proofs.lexer.WordsIterator.next.Goals as goal
 
 pub returns-then-is_empty-clause-steps : goal.returns-then-is_empty-clause-steps
 returns-then-is_empty-clause-steps c =
-    let t = c.args.self.now.rest.now in
     let none = true-eqb _ 0 c.if-is_empty.ensures in
-    next_none t _ _ _ _ (take_rest t c.blanks_len.result ∙ ap (λ n. drop n t) c.blanks_len.ensures.value) c.word_len.ensures.value c.split_at.ensures.front c.split_at.ensures.back none
+    next_none c.args.self.now.rest.now _ _ _ _ c.blanks_len.ensures.value c.word_len.ensures.value c.split_at.ensures.front c.split_at.ensures.back none
 
 pub returns-else-is_empty-clause-steps : goal.returns-else-is_empty-clause-steps
 returns-else-is_empty-clause-steps c =
-    let t = c.args.self.now.rest.now in
     let some = false-eqb _ 0 c.if-is_empty.ensures in
-    next_some t _ _ _ _ (take_rest t c.blanks_len.result ∙ ap (λ n. drop n t) c.blanks_len.ensures.value) c.word_len.ensures.value c.split_at.ensures.front c.split_at.ensures.back (omega arith)
+    next_some c.args.self.now.rest.now _ _ _ _ c.blanks_len.ensures.value c.word_len.ensures.value c.split_at.ensures.front c.split_at.ensures.back (omega arith)
 
 pub returns-else-is_empty-clause-goes : goal.returns-else-is_empty-clause-goes
 returns-else-is_empty-clause-goes c =
-    let fewer : length (plain_words c.split_at.result.1.now) < length (plain_words c.args.self.now.rest.now) = omega (arith, ap length (returns-else-is_empty-clause-steps c)) in
+    let fewer : length (plain_words c.split_at.result.1.now) < length (plain_words c.args.self.now.rest.now) =
+    omega (arith, ap length (returns-else-is_empty-clause-steps c)) in
     search rules
