@@ -1,7 +1,11 @@
 -- Facts on the last byte of a text. Assumes nothing.
-use Rattle.std.proofs.Common.{◌≡◌, ◌≢◌, ℕ, Bool, true, false, eqb, List, [], ◌∷◌, ◌++◌, Some, None, Option, MatchOption, Bor, sym, refl, ap, eq-eqb, true-eqb}
-use Rattle.std.specs.Option.{option_map, unwrap_or}
-use Rattle.sheet.specs.Ends.{stripped, without_end}
+use Rattle.std.proofs.Common.{◌≡◌, ℕ, ◌-◌, Bool, true, false, cond, eqb, List, [], ◌∷◌, ◌++◌, length, length-append, take, drop, Some, None, Option, sym, refl, ap, ◌∙◌, eq-eqb, true-eqb, arith}
+use Rattle.std.specs.Option.{option_map}
+use Rattle.std.specs.Str.{bytes_eq}
+use Rattle.std.proofs.lemmas.List.{take-append-drop}
+use Rattle.std.proofs.lemmas.Slice.Eq.{bytes_eq-Decides}
+use Rattle.std.proofs.Math.Seq.{drop-append_seam}
+use Rattle.sheet.specs.Ends.{stripped}
 
 stripped_push : (b : ℕ) (f : List ℕ) → stripped b (f ++ (b ∷ [])) ≡ Some f
 stripped_push b [] = rw (eq-eqb b b refl)
@@ -21,26 +25,22 @@ stripped_from b (x ∷ y ∷ xs) f e = by_rest (stripped b (y ∷ xs)) refl (str
     by_rest None h next = let none : None ≡ Some f = rw h at e in absurd cc
     by_rest (Some g) h next = let front : Some (x ∷ g) ≡ Some f = rw h at e in let same : x ∷ g ≡ f = cc in rw (← same) (ap (λ t. x ∷ t) (next g h))
 
--- what `strip_suffix` answers of one byte
-pub stripped_by : (b : ℕ) (s : List ℕ) (r : Option (Bor (List ℕ))) → MatchOption r ((f : List ℕ) → s ≢ f ++ (b ∷ [])) (λ x. s ≡ x.now ++ (b ∷ []))
-    → option_map (λ x. x.now) r ≡ stripped b s
-stripped_by b s (Some x) h = sym (rw h (stripped_push b x.now))
-stripped_by b s None h = by_rest (stripped b s) refl
+-- a text without its last byte, as `strip_suffix` tests and cuts it
+pub stripped_by : (b : ℕ) (s : List ℕ) → stripped b s ≡ cond (bytes_eq (drop (length s - 1) s) (b ∷ [])) (Some (take (length s - 1) s)) None
+stripped_by b s = by_test (bytes_eq (drop (length s - 1) s) (b ∷ [])) refl
   where
-    by_rest : (o : Option (List ℕ)) → stripped b s ≡ o → None ≡ o
-    by_rest None e = refl
-    by_rest (Some f) e = absurd (h f (stripped_from b s f e))
-
--- a line that ends in a line feed
-pub end_some : (s : List ℕ) (o p : Option (Bor (List ℕ))) (t u : Bor (List ℕ)) → o ≡ Some t → option_map (λ x. x.now) o ≡ stripped 10 s
-    → option_map (λ x. x.now) p ≡ stripped 13 t.now → u ≡ unwrap_or p t → u.now ≡ without_end s
-end_some s o p t u found feed return result =
-    rw (← feed, found, result, ← return) (now_or p)
-  where
-    now_or : (q : Option (Bor (List ℕ))) → (unwrap_or q t).now ≡ unwrap_or (option_map (λ x. x.now) q) t.now
-    now_or None = refl
-    now_or (Some x) = refl
-
--- a line that does not
-pub end_none : (s : List ℕ) (o : Option (Bor (List ℕ))) → o ≡ None → option_map (λ x. x.now) o ≡ stripped 10 s → s ≡ without_end s
-end_none s o none feed = rw (← feed, none)
+    by_test : (k : Bool) → bytes_eq (drop (length s - 1) s) (b ∷ []) ≡ k → stripped b s ≡ cond k (Some (take (length s - 1) s)) None
+    by_test true e =
+        let last : drop (length s - 1) s ≡ b ∷ [] = (bytes_eq-Decides (drop (length s - 1) s) (b ∷ [])).0 e in
+        let whole : s ≡ take (length s - 1) s ++ (b ∷ []) = sym (take-append-drop (length s - 1) s) ∙ ap (λ l. take (length s - 1) s ++ l) last in
+        ap (stripped b) whole ∙ stripped_push b (take (length s - 1) s)
+    by_test false e = by_rest (stripped b s) refl
+      where
+        by_rest : (o : Option (List ℕ)) → stripped b s ≡ o → o ≡ None
+        by_rest None h = refl
+        by_rest (Some f) h =
+            let whole : s ≡ f ++ (b ∷ []) = stripped_from b s f h in
+            let n : length s - 1 ≡ length f = omega (arith, ap length whole, length-append f (b ∷ [])) in
+            let last : drop (length s - 1) s ≡ b ∷ [] = ap (λ k. drop k s) n ∙ ap (drop (length f)) whole ∙ drop-append_seam f (b ∷ []) in
+            let yes : bytes_eq (drop (length s - 1) s) (b ∷ []) ≡ true = (bytes_eq-Decides (drop (length s - 1) s) (b ∷ [])).1 last in
+            absurd (let no : true ≡ false = sym yes ∙ e in cc)

@@ -48,6 +48,7 @@ impl<'a> Iterator for Words<'a> {
 }
 
 /// The line without its line feed, and without a carriage return before that.
+#[tactic(auto, using(crate::proofs::Ends::stripped_by))]
 pub fn without_end(line: &[u8]) -> &[u8]
     ensures { result.now ≡ without_end line.now }
 {
