@@ -1,10 +1,11 @@
 -- How the words of a line are cut from its front. Assumes nothing.
-use Rattle.std.proofs.Common.{◌≡◌, ℕ, suc, ◌+◌, ◌-◌, ◌<◌, ◌≤◌, Bool, true, false, cond, List, [], ◌∷◌, ◌++◌, length, take, drop, sym, refl, ap, ◌∙◌, arith}
+use Rattle.std.proofs.Common.{◌≡◌, ℕ, suc, ◌+◌, ◌-◌, ◌<◌, ◌≤◌, Bool, true, false, cond, List, [], ◌∷◌, ◌++◌, length, take, drop, nat_lt, sym, refl, ap, ◌∙◌, arith}
 use Rattle.std.proofs.lemmas.List.{length-take-le, take_rest}
 use Rattle.std.proofs.lemmas.List.Sums.{prefix_len-le-length}
 use Rattle.std.proofs.lemmas.Bool.Decides.{nat_tests}
-use Rattle.std.specs.List.{before_first, prefix_len, position_or_len}
-use Rattle.sheet.specs.Words.{is_blank, is_comment, BlanksPart, uncommented, onto, pieces, filled, plain_words, words, CommentsDropped}
+use Rattle.std.proofs.lemmas.List.Elements.{filter-append}
+use Rattle.std.specs.List.{before_first, prefix_len, position_or_len, filter, slice_split, onto_first}
+use Rattle.sheet.specs.Words.{is_blank, is_comment, BlanksPart, uncommented, plain_words, words, CommentsDropped}
 
 -- a list one longer at its front
 take_next : {X : Type 0} (x : X) (xs : List X) (n : ℕ) → take (1 + n) (x ∷ xs) ≡ x ∷ take n xs
@@ -32,6 +33,12 @@ comments_dropped xs ys zs = ap plain_words (uncommented_after xs ys zs)
 
 -- ---- the next word
 
+abbrev pieces : List ℕ → List (List ℕ)
+pieces bs = slice_split is_blank bs
+
+abbrev filled : List (List ℕ) → List (List ℕ)
+filled ps = filter (λ w. nat_lt 0 (length w)) ps
+
 -- the pieces after the first blank
 abbrev later : List ℕ → List (List ℕ)
 later [] = []
@@ -45,7 +52,7 @@ pieces_cut (b ∷ bs) = by_blank (is_blank b) refl (pieces_cut bs)
     by_blank : (k : Bool) → is_blank b ≡ k → pieces bs ≡ before_first is_blank bs ∷ later (drop (position_or_len is_blank bs) bs)
         → pieces (b ∷ bs) ≡ before_first is_blank (b ∷ bs) ∷ later (drop (position_or_len is_blank (b ∷ bs)) (b ∷ bs))
     by_blank true e next = rw e
-    by_blank false e next = rw (e, take_next b bs (position_or_len is_blank bs), drop_next b bs (position_or_len is_blank bs)) (ap (onto b) next)
+    by_blank false e next = rw (e, take_next b bs (position_or_len is_blank bs), drop_next b bs (position_or_len is_blank bs)) (ap (onto_first b) next)
 
 filled_later : (t : List ℕ) → filled (later (drop (position_or_len is_blank t) t)) ≡ plain_words (drop (position_or_len is_blank t) t)
 filled_later [] = refl
@@ -80,8 +87,7 @@ trimmed_empty (b ∷ bs) h = by_blank (is_blank b) refl h (trimmed_empty bs)
     by_blank false e h next = let z : 1 + position_or_len is_blank bs ≡ 0 = rw (e, e) at h in absurd (omega arith)
 
 filled_first : (w : List ℕ) (ps : List (List ℕ)) → 0 < length w → filled (w ∷ ps) ≡ w ∷ filled ps
-filled_first [] ps h = absurd (omega arith)
-filled_first (b ∷ bs) ps h = refl
+filled_first w ps h = let some : nat_lt 0 (length w) ≡ true = grind (arith, nat_tests) in rw some
 
 -- m is how many blanks a text begins with, and n how long the word after them is
 pub next_some : (t w r : List ℕ) (m n : ℕ) → m ≡ prefix_len is_blank t → n ≡ position_or_len is_blank (take (length t - m) (drop m t))
@@ -104,12 +110,7 @@ next_none t w r m n em en ew er h =
 
 -- ---- blanks
 
-filled-append : (ps qs : List (List ℕ)) → filled (ps ++ qs) ≡ filled ps ++ filled qs
-filled-append [] qs = refl
-filled-append ([] ∷ ps) qs = filled-append ps qs
-filled-append ((b ∷ p) ∷ ps) qs = ap (λ l. (b ∷ p) ∷ l) (filled-append ps qs)
-
-onto-append : (x : ℕ) (xs : List ℕ) (qs : List (List ℕ)) → onto x (pieces xs ++ qs) ≡ onto x (pieces xs) ++ qs
+onto-append : (x : ℕ) (xs : List ℕ) (qs : List (List ℕ)) → onto_first x (pieces xs ++ qs) ≡ onto_first x (pieces xs) ++ qs
 onto-append x xs qs = rw (pieces_cut xs)
 
 pieces-append : (xs ys : List ℕ) (b : ℕ) → is_blank b ≡ true → pieces (xs ++ (b ∷ ys)) ≡ pieces xs ++ pieces ys
@@ -118,7 +119,7 @@ pieces-append (x ∷ xs) ys b e = by_blank (is_blank x) refl (pieces-append xs y
   where
     by_blank : (k : Bool) → is_blank x ≡ k → pieces (xs ++ (b ∷ ys)) ≡ pieces xs ++ pieces ys → pieces ((x ∷ xs) ++ (b ∷ ys)) ≡ pieces (x ∷ xs) ++ pieces ys
     by_blank true e next = rw e (ap (λ l. [] ∷ l) next)
-    by_blank false e next = rw e (ap (onto x) next ∙ onto-append x xs (pieces ys))
+    by_blank false e next = rw e (ap (onto_first x) next ∙ onto-append x xs (pieces ys))
 
 uncommented_before : (xs zs : List ℕ) → uncommented xs ≡ xs → uncommented (xs ++ zs) ≡ xs ++ uncommented zs
 uncommented_before [] zs h = refl
@@ -136,4 +137,4 @@ pub blanks_part : BlanksPart
 blanks_part xs ys b h e =
     let line : uncommented (xs ++ (b ∷ ys)) ≡ xs ++ (b ∷ uncommented ys) =
     uncommented_before xs (b ∷ ys) h ∙ rw (blank_no_comment b e) in
-    ap plain_words line ∙ ap filled (pieces-append xs (uncommented ys) b e) ∙ filled-append (pieces xs) (pieces (uncommented ys)) ∙ ap (λ l. plain_words l ++ words ys) (sym h)
+    ap plain_words line ∙ ap filled (pieces-append xs (uncommented ys) b e) ∙ filter-append (λ w. nat_lt 0 (length w)) (pieces xs) (pieces (uncommented ys)) ∙ ap (λ l. plain_words l ++ words ys) (sym h)

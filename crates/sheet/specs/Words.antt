@@ -1,5 +1,6 @@
 -- The words of a line. Assumes nothing.
-use Rattle.std.specs.Prelude.{◌≡◌, ℕ, Bool, true, cond, ◌||◌, List, [], ◌∷◌, ◌++◌, Some, None, Option, ◌==◌}
+use Rattle.std.specs.Prelude.{◌≡◌, ℕ, Bool, true, cond, ◌||◌, List, [], ◌∷◌, ◌++◌, length, Some, None, Option, ◌==◌, nat_lt, filter}
+use Rattle.std.specs.List.{slice_split}
 
 -- a space or a tab, which parts words
 abbrev pub is_blank : ℕ → Bool
@@ -14,25 +15,9 @@ abbrev pub uncommented : List ℕ → List ℕ
 uncommented [] = []
 uncommented (b ∷ bs) = cond (is_comment b) [] (b ∷ uncommented bs)
 
--- b in front of the first of the pieces
-abbrev pub onto : ℕ → List (List ℕ) → List (List ℕ)
-onto b [] = (b ∷ []) ∷ []
-onto b (p ∷ ps) = (b ∷ p) ∷ ps
-
--- a text cut at each of its blanks, which belong to no piece
-abbrev pub pieces : List ℕ → List (List ℕ)
-pieces [] = [] ∷ []
-pieces (b ∷ bs) = cond (is_blank b) ([] ∷ pieces bs) (onto b (pieces bs))
-
--- the pieces that hold something
-abbrev pub filled : List (List ℕ) → List (List ℕ)
-filled [] = []
-filled ([] ∷ ps) = filled ps
-filled ((b ∷ p) ∷ ps) = (b ∷ p) ∷ filled ps
-
--- the words of a text that has no comment
+-- the words of a text that has no comment: the parts between its blanks that hold something
 abbrev pub plain_words : List ℕ → List (List ℕ)
-plain_words bs = filled (pieces bs)
+plain_words bs = filter (λ w. nat_lt 0 (length w)) (slice_split is_blank bs)
 
 -- the words of a line
 abbrev pub words : List ℕ → List (List ℕ)
