@@ -1,5 +1,5 @@
 -- How the words of a line are cut from its front. Assumes nothing.
-use Rattle.std.proofs.Common.{◌≡◌, ℕ, suc, ◌+◌, ◌-◌, ◌<◌, ◌≤◌, Bool, true, false, cond, List, [], ◌∷◌, ◌++◌, length, take, drop, nat_lt, sym, refl, ap, ◌∙◌, arith}
+use Rattle.std.proofs.Common.{◌≡◌, ℕ, suc, ◌+◌, ◌-◌, ◌<◌, ◌≤◌, Bool, true, false, not, cond, List, [], ◌∷◌, ◌++◌, length, take, drop, nat_lt, sym, refl, ap, ◌∙◌, arith}
 use Rattle.std.proofs.lemmas.List.{length-take-le, take_rest}
 use Rattle.std.proofs.lemmas.List.Sums.{prefix_len-le-length}
 use Rattle.std.proofs.lemmas.Bool.Decides.{nat_tests}
@@ -16,17 +16,17 @@ drop_next x xs n = let e : 1 + n ≡ suc n = omega arith in ap (λ k. drop k (x 
 
 -- ---- comments
 
-pub uncommented_at : (t : List ℕ) → before_first is_comment t ≡ uncommented t
-uncommented_at [] = refl
-uncommented_at (b ∷ bs) = by_comment (is_comment b) refl (uncommented_at bs)
+uncommented-cons : (b : ℕ) (bs : List ℕ) → uncommented (b ∷ bs) ≡ cond (is_comment b) [] (b ∷ uncommented bs)
+uncommented-cons b bs = by_comment (is_comment b)
   where
-    by_comment : (k : Bool) → is_comment b ≡ k → before_first is_comment bs ≡ uncommented bs → before_first is_comment (b ∷ bs) ≡ uncommented (b ∷ bs)
-    by_comment true e next = rw e
-    by_comment false e next = rw (e, take_next b bs (position_or_len is_comment bs)) (ap (λ l. b ∷ l) next)
+    by_comment : (k : Bool) → take (cond (not k) (1 + position_or_len is_comment bs) 0) (b ∷ bs) ≡ cond k [] (b ∷ uncommented bs)
+    by_comment true = refl
+    by_comment false = take_next b bs (position_or_len is_comment bs)
 
 uncommented_after : (xs ys zs : List ℕ) → uncommented (xs ++ (35 ∷ ys)) ≡ uncommented (xs ++ (35 ∷ zs))
 uncommented_after [] ys zs = refl
-uncommented_after (x ∷ xs) ys zs = ap (λ l. cond (is_comment x) [] (x ∷ l)) (uncommented_after xs ys zs)
+uncommented_after (x ∷ xs) ys zs =
+    uncommented-cons x (xs ++ (35 ∷ ys)) ∙ ap (λ l. cond (is_comment x) [] (x ∷ l)) (uncommented_after xs ys zs) ∙ sym (uncommented-cons x (xs ++ (35 ∷ zs)))
 
 pub comments_dropped : CommentsDropped
 comments_dropped xs ys zs = ap plain_words (uncommented_after xs ys zs)
@@ -123,12 +123,12 @@ pieces-append (x ∷ xs) ys b e = by_blank (is_blank x) refl (pieces-append xs y
 
 uncommented_before : (xs zs : List ℕ) → uncommented xs ≡ xs → uncommented (xs ++ zs) ≡ xs ++ uncommented zs
 uncommented_before [] zs h = refl
-uncommented_before (x ∷ xs) zs h = by_comment (is_comment x) refl h (uncommented_before xs zs)
+uncommented_before (x ∷ xs) zs h = uncommented-cons x (xs ++ zs) ∙ by_comment (is_comment x) (sym (uncommented-cons x xs) ∙ h) (uncommented_before xs zs)
   where
-    by_comment : (k : Bool) → is_comment x ≡ k → uncommented (x ∷ xs) ≡ x ∷ xs → (uncommented xs ≡ xs → uncommented (xs ++ zs) ≡ xs ++ uncommented zs)
-        → uncommented ((x ∷ xs) ++ zs) ≡ (x ∷ xs) ++ uncommented zs
-    by_comment true e h next = let none : [] ≡ x ∷ xs = rw e at h in let z : ◌≡◌ {A = ℕ} 0 1 = cc in absurd (omega arith)
-    by_comment false e h next = let more : x ∷ uncommented xs ≡ x ∷ xs = rw e at h in let rest : uncommented xs ≡ xs = cc in rw e (ap (λ l. x ∷ l) (next rest))
+    by_comment : (k : Bool) → cond k [] (x ∷ uncommented xs) ≡ x ∷ xs → (uncommented xs ≡ xs → uncommented (xs ++ zs) ≡ xs ++ uncommented zs)
+        → cond k [] (x ∷ uncommented (xs ++ zs)) ≡ (x ∷ xs) ++ uncommented zs
+    by_comment true h next = absurd cc
+    by_comment false h next = let rest : uncommented xs ≡ xs = cc in ap (λ l. x ∷ l) (next rest)
 
 blank_no_comment : (b : ℕ) → is_blank b ≡ true → is_comment b ≡ false
 blank_no_comment b e = grind (arith, nat_tests)
@@ -136,5 +136,5 @@ blank_no_comment b e = grind (arith, nat_tests)
 pub blanks_part : BlanksPart
 blanks_part xs ys b h e =
     let line : uncommented (xs ++ (b ∷ ys)) ≡ xs ++ (b ∷ uncommented ys) =
-    uncommented_before xs (b ∷ ys) h ∙ rw (blank_no_comment b e) in
+    uncommented_before xs (b ∷ ys) h ∙ ap (λ l. xs ++ l) (uncommented-cons b ys ∙ rw (blank_no_comment b e)) in
     ap plain_words line ∙ ap filled (pieces-append xs (uncommented ys) b e) ∙ filter-append (λ w. nat_lt 0 (length w)) (pieces xs) (pieces (uncommented ys)) ∙ ap (λ l. plain_words l ++ words ys) (sym h)

@@ -1,6 +1,6 @@
 -- The words of a line. Assumes nothing.
-use Rattle.std.specs.Prelude.{◌≡◌, ℕ, Bool, true, cond, ◌||◌, List, [], ◌∷◌, ◌++◌, length, Some, None, Option, ◌==◌, nat_lt, filter}
-use Rattle.std.specs.List.{slice_split}
+use Rattle.std.specs.Prelude.{◌≡◌, ℕ, Bool, true, ◌||◌, List, [], ◌∷◌, ◌++◌, length, Some, None, Option, ◌==◌, nat_lt, filter}
+use Rattle.std.specs.List.{before_first, slice_split}
 
 -- a space or a tab, which parts words
 abbrev pub is_blank : ℕ → Bool
@@ -12,8 +12,7 @@ is_comment b = b == 35
 
 -- what stands before the first `#`, or all where there is none
 abbrev pub uncommented : List ℕ → List ℕ
-uncommented [] = []
-uncommented (b ∷ bs) = cond (is_comment b) [] (b ∷ uncommented bs)
+uncommented bs = before_first is_comment bs
 
 -- the words of a text that has no comment: the parts between its blanks that hold something
 abbrev pub plain_words : List ℕ → List (List ℕ)

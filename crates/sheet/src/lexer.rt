@@ -59,7 +59,6 @@ pub fn without_end(line: &[u8]) -> &[u8]
 }
 
 /// The line without its comment.
-#[tactic(auto, using(crate::proofs::Cuts::uncommented_at))]
 pub fn before_comment(text: &[u8]) -> &[u8]
     ensures { result.now ≡ uncommented text.now }
 {
