@@ -1,5 +1,5 @@
 -- How the words of a line are cut from its front. Assumes nothing.
-use Rattle.std.proofs.Common.{◌≡◌, ℕ, suc, ◌+◌, ◌-◌, ◌<◌, ◌≤◌, Bool, true, false, not, cond, List, [], ◌∷◌, ◌++◌, length, take, drop, nat_lt, sym, refl, ap, ◌∙◌, arith}
+use Rattle.std.proofs.Common.{◌≡◌, ℕ, suc, ◌+◌, ◌-◌, ◌<◌, ◌≤◌, true, false, cond, List, [], ◌∷◌, ◌++◌, length, take, drop, nat_lt, sym, refl, ap, ◌∙◌, arith}
 use Rattle.std.proofs.lemmas.List.{length-take-le, take_rest}
 use Rattle.std.proofs.lemmas.List.Sums.{prefix_len-le-length}
 use Rattle.std.proofs.lemmas.Bool.Decides.{nat_tests}
@@ -17,16 +17,11 @@ drop_next x xs n = let e : 1 + n ≡ suc n = omega arith in ap (λ k. drop k (x 
 -- ---- comments
 
 uncommented-cons : (b : ℕ) (bs : List ℕ) → uncommented (b ∷ bs) ≡ cond (is_comment b) [] (b ∷ uncommented bs)
-uncommented-cons b bs = by_comment (is_comment b)
-  where
-    by_comment : (k : Bool) → take (cond (not k) (1 + position_or_len is_comment bs) 0) (b ∷ bs) ≡ cond k [] (b ∷ uncommented bs)
-    by_comment true = refl
-    by_comment false = take_next b bs (position_or_len is_comment bs)
+uncommented-cons b bs = grind (arith, take_next)
 
 uncommented_after : (xs ys zs : List ℕ) → uncommented (xs ++ (35 ∷ ys)) ≡ uncommented (xs ++ (35 ∷ zs))
 uncommented_after [] ys zs = refl
-uncommented_after (x ∷ xs) ys zs =
-    uncommented-cons x (xs ++ (35 ∷ ys)) ∙ ap (λ l. cond (is_comment x) [] (x ∷ l)) (uncommented_after xs ys zs) ∙ sym (uncommented-cons x (xs ++ (35 ∷ zs)))
+uncommented_after (x ∷ xs) ys zs = grind (arith, uncommented-cons, uncommented_after xs ys zs)
 
 pub comments_dropped : CommentsDropped
 comments_dropped xs ys zs = ap plain_words (uncommented_after xs ys zs)
@@ -47,44 +42,21 @@ later (b ∷ bs) = pieces bs
 -- the first piece, and the others
 pieces_cut : (t : List ℕ) → pieces t ≡ before_first is_blank t ∷ later (drop (position_or_len is_blank t) t)
 pieces_cut [] = refl
-pieces_cut (b ∷ bs) = by_blank (is_blank b) refl (pieces_cut bs)
-  where
-    by_blank : (k : Bool) → is_blank b ≡ k → pieces bs ≡ before_first is_blank bs ∷ later (drop (position_or_len is_blank bs) bs)
-        → pieces (b ∷ bs) ≡ before_first is_blank (b ∷ bs) ∷ later (drop (position_or_len is_blank (b ∷ bs)) (b ∷ bs))
-    by_blank true e next = rw e
-    by_blank false e next = rw (e, take_next b bs (position_or_len is_blank bs), drop_next b bs (position_or_len is_blank bs)) (ap (onto_first b) next)
+pieces_cut (b ∷ bs) = grind (arith, pieces_cut bs, take_next, drop_next)
 
 filled_later : (t : List ℕ) → filled (later (drop (position_or_len is_blank t) t)) ≡ plain_words (drop (position_or_len is_blank t) t)
 filled_later [] = refl
-filled_later (b ∷ bs) = by_blank (is_blank b) refl (filled_later bs)
-  where
-    by_blank : (k : Bool) → is_blank b ≡ k → filled (later (drop (position_or_len is_blank bs) bs)) ≡ plain_words (drop (position_or_len is_blank bs) bs)
-        → filled (later (drop (position_or_len is_blank (b ∷ bs)) (b ∷ bs))) ≡ plain_words (drop (position_or_len is_blank (b ∷ bs)) (b ∷ bs))
-    by_blank true e next = rw (e, e)
-    by_blank false e next = rw (e, drop_next b bs (position_or_len is_blank bs)) next
+filled_later (b ∷ bs) = grind (arith, filled_later bs, drop_next)
 
 -- the blanks that a text begins with are no words
 plain_words-trimmed : (t : List ℕ) → plain_words (drop (prefix_len is_blank t) t) ≡ plain_words t
 plain_words-trimmed [] = refl
-plain_words-trimmed (b ∷ bs) = by_blank (is_blank b) refl (plain_words-trimmed bs)
-  where
-    by_blank : (k : Bool) → is_blank b ≡ k → plain_words (drop (prefix_len is_blank bs) bs) ≡ plain_words bs
-        → plain_words (drop (prefix_len is_blank (b ∷ bs)) (b ∷ bs)) ≡ plain_words (b ∷ bs)
-    by_blank true e next = rw (e, drop_next b bs (prefix_len is_blank bs)) next
-    by_blank false e next = rw (e, e)
+plain_words-trimmed (b ∷ bs) = grind (arith, plain_words-trimmed bs, drop_next)
 
 -- no word begins where the blanks end: the text ends there
 trimmed_empty : (t : List ℕ) → position_or_len is_blank (drop (prefix_len is_blank t) t) ≡ 0 → drop (prefix_len is_blank t) t ≡ []
 trimmed_empty [] h = refl
-trimmed_empty (b ∷ bs) h = by_blank (is_blank b) refl h (trimmed_empty bs)
-  where
-    by_blank : (k : Bool) → is_blank b ≡ k → position_or_len is_blank (drop (prefix_len is_blank (b ∷ bs)) (b ∷ bs)) ≡ 0
-        → (position_or_len is_blank (drop (prefix_len is_blank bs) bs) ≡ 0 → drop (prefix_len is_blank bs) bs ≡ [])
-        → drop (prefix_len is_blank (b ∷ bs)) (b ∷ bs) ≡ []
-    by_blank true e h next =
-        let z : position_or_len is_blank (drop (prefix_len is_blank bs) bs) ≡ 0 = rw (e, drop_next b bs (prefix_len is_blank bs)) at h in
-        rw (e, drop_next b bs (prefix_len is_blank bs)) (next z)
-    by_blank false e h next = let z : 1 + position_or_len is_blank bs ≡ 0 = rw (e, e) at h in absurd (omega arith)
+trimmed_empty (b ∷ bs) h = grind (arith, trimmed_empty bs, drop_next)
 
 filled_first : (w : List ℕ) (ps : List (List ℕ)) → 0 < length w → filled (w ∷ ps) ≡ w ∷ filled ps
 filled_first w ps h = let some : nat_lt 0 (length w) ≡ true = grind (arith, nat_tests) in rw some
@@ -114,21 +86,12 @@ onto-append : (x : ℕ) (xs : List ℕ) (qs : List (List ℕ)) → onto_first x 
 onto-append x xs qs = rw (pieces_cut xs)
 
 pieces-append : (xs ys : List ℕ) (b : ℕ) → is_blank b ≡ true → pieces (xs ++ (b ∷ ys)) ≡ pieces xs ++ pieces ys
-pieces-append [] ys b e = rw e
-pieces-append (x ∷ xs) ys b e = by_blank (is_blank x) refl (pieces-append xs ys b e)
-  where
-    by_blank : (k : Bool) → is_blank x ≡ k → pieces (xs ++ (b ∷ ys)) ≡ pieces xs ++ pieces ys → pieces ((x ∷ xs) ++ (b ∷ ys)) ≡ pieces (x ∷ xs) ++ pieces ys
-    by_blank true e next = rw e (ap (λ l. [] ∷ l) next)
-    by_blank false e next = rw e (ap (onto_first x) next ∙ onto-append x xs (pieces ys))
+pieces-append [] ys b e = grind arith
+pieces-append (x ∷ xs) ys b e = grind (arith, pieces-append xs ys b e, onto-append)
 
 uncommented_before : (xs zs : List ℕ) → uncommented xs ≡ xs → uncommented (xs ++ zs) ≡ xs ++ uncommented zs
 uncommented_before [] zs h = refl
-uncommented_before (x ∷ xs) zs h = uncommented-cons x (xs ++ zs) ∙ by_comment (is_comment x) (sym (uncommented-cons x xs) ∙ h) (uncommented_before xs zs)
-  where
-    by_comment : (k : Bool) → cond k [] (x ∷ uncommented xs) ≡ x ∷ xs → (uncommented xs ≡ xs → uncommented (xs ++ zs) ≡ xs ++ uncommented zs)
-        → cond k [] (x ∷ uncommented (xs ++ zs)) ≡ (x ∷ xs) ++ uncommented zs
-    by_comment true h next = absurd cc
-    by_comment false h next = let rest : uncommented xs ≡ xs = cc in ap (λ l. x ∷ l) (next rest)
+uncommented_before (x ∷ xs) zs h = grind (arith, uncommented-cons, uncommented_before xs zs)
 
 blank_no_comment : (b : ℕ) → is_blank b ≡ true → is_comment b ≡ false
 blank_no_comment b e = grind (arith, nat_tests)

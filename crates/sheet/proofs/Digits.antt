@@ -1,5 +1,5 @@
 -- How a number is read digit by digit. Assumes nothing.
-use Rattle.std.proofs.Common.{◌≡◌, ℕ, ◌+◌, ◌-◌, ◌*◌, ◌/◌, ◌%◌, ◌^◌, ◌<◌, ◌≤◌, Bool, true, false, List, [], ◌∷◌, ◌++◌, length, get_or, drop, Some, None, decimal, sym, refl, ap, ◌∙◌, arith}
+use Rattle.std.proofs.Common.{◌≡◌, ℕ, ◌+◌, ◌-◌, ◌*◌, ◌/◌, ◌%◌, ◌^◌, ◌<◌, ◌≤◌, true, List, [], ◌∷◌, ◌++◌, length, get_or, drop, Some, None, decimal, sym, refl, ap, ◌∙◌, arith}
 use Rattle.std.proofs.lemmas.List.{drop_more, drop_all}
 use Rattle.std.proofs.lemmas.Bool.Decides.{nat_tests}
 use Rattle.std.proofs.lemmas.Fmt.{decimal_by_steps, decimal_nonempty}
@@ -17,38 +17,21 @@ zeros_dropped max w h = sym (number_some max w h)
 -- digits only make a number larger
 above : (max n : ℕ) (cs : List ℕ) → max < n → up_to max (digits_after n cs) ≡ None
 above max n [] h = grind (arith, nat_tests)
-above max n (c ∷ cs) h = by_digit (is_digit c) refl (above max (n * 10 + (c - 48)) cs (omega arith))
-  where
-    by_digit : (k : Bool) → is_digit c ≡ k → up_to max (digits_after (n * 10 + (c - 48)) cs) ≡ None → up_to max (digits_after n (c ∷ cs)) ≡ None
-    by_digit true e next = rw e next
-    by_digit false e next = rw e
+above max n (c ∷ cs) h = grind (arith, nat_tests, above max (n * 10 + (c - 48)) cs (omega arith))
 
 pub digits_above : (max : ℕ) (w : List ℕ) (i n : ℕ) → i < length w → ((d : ℕ) → decimal_digit (get_or w i 0) ≡ Some d → max < n * 10 + d)
     → digits_after 0 w ≡ digits_after n (drop i w) → None ≡ number_of max w
-digits_above max w i n h past inv =
-    sym (number_some max w (omega arith) ∙ ap (up_to max) (inv ∙ ap (digits_after n) (drop_more w i 0 h)) ∙ by_digit (is_digit (get_or w i 0)) refl)
-  where
-    by_digit : (k : Bool) → is_digit (get_or w i 0) ≡ k → up_to max (digits_after n (get_or w i 0 ∷ drop (i + 1) w)) ≡ None
-    by_digit true e = rw e (above max (n * 10 + (get_or w i 0 - 48)) (drop (i + 1) w) (past (get_or w i 0 - 48) (rw e)))
-    by_digit false e = rw e
+digits_above max w i n h past inv = grind (arith, nat_tests, number_some max w, drop_more w i 0 h, above max (n * 10 + (get_or w i 0 - 48)) (drop (i + 1) w), past (get_or w i 0 - 48))
 
 pub digits_all : (max : ℕ) (w : List ℕ) (i n : ℕ) → 0 < length w → length w ≤ i → n ≤ max
     → digits_after 0 w ≡ digits_after n (drop i w) → Some n ≡ number_of max w
-digits_all max w i n some h small inv =
-    let whole : digits_after 0 w ≡ Some n = inv ∙ rw (drop_all i w h) in
-    let within : up_to max (Some n) ≡ Some n = grind (arith, nat_tests) in
-    sym (number_some max w some ∙ ap (up_to max) whole ∙ within)
+digits_all max w i n some h small inv = grind (arith, nat_tests, number_some max w, drop_all i w h)
 
 -- ---- what is written of a number
 
 digits_push : (m k c : ℕ) (ds : List ℕ) → is_digit c ≡ true → digits_after m ds ≡ Some k → digits_after m (ds ++ (c ∷ [])) ≡ Some (k * 10 + (c - 48))
-digits_push m k c [] is e = let same : m ≡ k = cc in rw (is, same)
-digits_push m k c (d ∷ ds) is e = by_digit (is_digit d) refl (λ h. digits_push (m * 10 + (d - 48)) k c ds is h)
-  where
-    by_digit : (b : Bool) → is_digit d ≡ b → (digits_after (m * 10 + (d - 48)) ds ≡ Some k → digits_after (m * 10 + (d - 48)) (ds ++ (c ∷ [])) ≡ Some (k * 10 + (c - 48)))
-        → digits_after m ((d ∷ ds) ++ (c ∷ [])) ≡ Some (k * 10 + (c - 48))
-    by_digit true h next = rw h (next (rw h at e))
-    by_digit false h next = let s : None ≡ Some k = rw h at e in let z : ◌≡◌ {A = ℕ} 0 1 = cc in absurd (omega arith)
+digits_push m k c [] is e = grind arith
+digits_push m k c (d ∷ ds) is e = grind (arith, digits_push (m * 10 + (d - 48)) k c ds is)
 
 digits_decimal : (n : ℕ) → n < 2 ^ 64 → digits_after 0 (decimal n) ≡ Some n
 digits_decimal n h = decimal_by_steps (λ k ds. digits_after 0 ds ≡ Some k) one more n h

@@ -1,8 +1,9 @@
 -- Facts on the last byte of a text. Assumes nothing.
-use Rattle.std.proofs.Common.{◌≡◌, ℕ, ◌-◌, Bool, true, false, cond, eqb, List, [], ◌∷◌, ◌++◌, length, length-append, take, drop, Some, None, Option, sym, refl, ap, ◌∙◌, eq-eqb, true-eqb, arith}
+use Rattle.std.proofs.Common.{◌≡◌, ℕ, ◌-◌, Bool, true, false, cond, List, [], ◌∷◌, ◌++◌, length, length-append, take, drop, Some, None, Option, sym, refl, ap, ◌∙◌, eq-eqb, arith}
 use Rattle.std.specs.Option.{option_map}
 use Rattle.std.specs.Str.{bytes_eq}
 use Rattle.std.proofs.lemmas.List.{take-append-drop}
+use Rattle.std.proofs.lemmas.Bool.Decides.{nat_tests}
 use Rattle.std.proofs.lemmas.Slice.Eq.{bytes_eq-Decides}
 use Rattle.std.proofs.Math.Seq.{drop-append_seam}
 use Rattle.sheet.specs.Ends.{stripped}
@@ -14,11 +15,7 @@ stripped_push b (x ∷ y ∷ f) = ap (option_map (λ t. x ∷ t)) (stripped_push
 
 stripped_from : (b : ℕ) (s f : List ℕ) → stripped b s ≡ Some f → s ≡ f ++ (b ∷ [])
 stripped_from b [] f e = absurd cc
-stripped_from b (x ∷ []) f e = by_byte (eqb x b) refl
-  where
-    by_byte : (k : Bool) → eqb x b ≡ k → x ∷ [] ≡ f ++ (b ∷ [])
-    by_byte true h = let empty : Some [] ≡ Some f = rw h at e in let same : x ≡ b = true-eqb x b (sym h) in cc
-    by_byte false h = let none : None ≡ Some f = rw h at e in absurd cc
+stripped_from b (x ∷ []) f e = grind (arith, nat_tests)
 stripped_from b (x ∷ y ∷ xs) f e = by_rest (stripped b (y ∷ xs)) refl (stripped_from b (y ∷ xs))
   where
     by_rest : (o : Option (List ℕ)) → stripped b (y ∷ xs) ≡ o → ((g : List ℕ) → stripped b (y ∷ xs) ≡ Some g → y ∷ xs ≡ g ++ (b ∷ [])) → x ∷ y ∷ xs ≡ f ++ (b ∷ [])
