@@ -63,6 +63,7 @@ impl<T: Drop> From<AllocFailed<T>> for LineError {
     }
 }
 
+// Beside `read_sheet_line`, since a sheet without a store has fewer lines.
 /// Reads a line, given without its line end.
 pub fn read_line(heap: Global, text: &[u8]) -> Result<Line, LineError>
     ensures { Tells said_by result (line_of text.now) }

@@ -14,6 +14,7 @@ pub struct Setup {
     store: Option<StoreKind>,
     values: Option<Vec<u32>>,
     window: Option<WindowSize>,
+    // The line says no more than that it came.
     buffer: bool,
 }
 

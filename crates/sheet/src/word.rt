@@ -13,6 +13,7 @@ use std::alloc::Global;
 pub trait Word: Sized {
     ghost said: { List ℕ → Maybe Self };
 
+    /// What the word says, if it follows the rule.
     fn from_word(word: &[u8]) -> Option<Self>
         ensures { result ≡ said word.now };
 }
@@ -78,6 +79,7 @@ pub fn read_all<T: Word + Drop>(heap: Global, words: Words) -> Result<Vec<T>, Li
     Ok(all)
 }
 
+// Only the number of a cell, or of cells, ever stands alone, so this is for no other `Word`.
 /// The number that the only word to come says.
 pub fn only_number(mut words: Words) -> Option<u16>
     ensures { result ≡ only_number (plain_words words.entry.rest.now) }
