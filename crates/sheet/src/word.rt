@@ -43,7 +43,7 @@ impl Word for u16 {
 impl Word for u32 {
     ghost said = { number_of 4294967295 };
 
-    // Digit by digit: `parse` would take a sign `+` too.
+    // Digit by digit: `parse` would take a sign `+` too, and `try_fold` does not tell at which number it broke off.
     fn from_word(word: &[u8]) -> Option<u32> {
         if word.is_empty() {
             return None;
