@@ -63,8 +63,5 @@ impl<R: BufRead + Drop> Iterator for SheetLines<R> {
 
 /// The error of a line with this number.
 pub fn error_at(number: u64, why: LineError) -> anyhow::Error {
-    match why {
-        LineError::NotUnderstood => anyhow!("line {number} is not understood"),
-        LineError::NoMemory => anyhow!("line {number} finds no memory"),
-    }
+    anyhow!("line {number} {why}")
 }
