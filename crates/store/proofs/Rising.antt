@@ -1,48 +1,33 @@
 -- Numbers that rise. Assumes nothing.
-use Rattle.std.proofs.Common.{◌≡◌, ℕ, zero, suc, ◌<◌, ◌≤◌, true, false, ltb, List, [], ◌∷◌, length, get_or, drop, sym, refl, ap, ◌∙◌, subst, arith}
-use Rattle.std.proofs.lemmas.Bool.{and_parts, lt-ltb, le-ltb, ltb-true}
+use Rattle.std.proofs.Common.{◌≡◌, ℕ, zero, suc, ◌+◌, ◌<◌, Bool, true, false, ltb, List, [], ◌∷◌, length, get_or, sym, refl, subst, arith}
+use Rattle.std.proofs.lemmas.Bool.{and_parts, ltb-true}
+use Rattle.std.specs.List.{IsAllAdjacentAnswer}
+use Rattle.std.proofs.Math.Bool.{and-false}
 use Rattle.store.specs.Slices.{rising}
 
 -- each number is above all those before it
 abbrev pub Rising : List ℕ → Type 0
 Rising xs = (i j : ℕ) → i < j → j < length xs → get_or xs i 0 < get_or xs j 0
 
-step : (xs : List ℕ) (i : ℕ) → suc i < length xs → get_or xs i 0 < get_or xs (suc i) 0 → rising (drop (suc i) xs) ≡ rising (drop i xs)
-step [] i a l = absurd (omega arith)
-step (x ∷ []) i a l = absurd (omega arith)
-step (x ∷ y ∷ xs) zero a l = rw (lt-ltb x y l)
-step (x ∷ y ∷ xs) (suc i) a l = step (y ∷ xs) i (omega arith) l
+all_rise : (xs : List ℕ) → ((k d : ℕ) → suc k < length xs → true ≡ ltb (get_or xs k d) (get_or xs (suc k) d)) → true ≡ rising xs
+all_rise [] h = refl
+all_rise (x ∷ []) h = refl
+all_rise (x ∷ y ∷ xs) h = rw (sym (h 0 0 (omega arith))) (all_rise (y ∷ xs) (λ k d l. h (suc k) d (omega arith)))
 
-ends : (xs : List ℕ) (i : ℕ) → suc i < length xs → get_or xs (suc i) 0 ≤ get_or xs i 0 → false ≡ rising (drop i xs)
-ends [] i a l = absurd (omega arith)
-ends (x ∷ []) i a l = absurd (omega arith)
-ends (x ∷ y ∷ xs) zero a l = rw (le-ltb x y l)
-ends (x ∷ y ∷ xs) (suc i) a l = ends (y ∷ xs) i (omega arith) l
+some_falls : (xs : List ℕ) (k : ℕ) → suc k < length xs → ((d : ℕ) → false ≡ ltb (get_or xs k d) (get_or xs (suc k) d)) → false ≡ rising xs
+some_falls [] k l h = absurd (omega arith)
+some_falls (x ∷ []) k l h = absurd (omega arith)
+some_falls (x ∷ y ∷ xs) zero l h = rw (sym (h 0))
+some_falls (x ∷ y ∷ xs) (suc k) l h =
+    rw (sym (some_falls (y ∷ xs) k (omega arith) h)) (sym (and-false (ltb x y)))
 
-last : (xs : List ℕ) (i : ℕ) → length xs ≤ suc i → true ≡ rising (drop i xs)
-last [] zero a = refl
-last [] (suc i) a = refl
-last (x ∷ []) zero a = refl
-last (x ∷ y ∷ xs) zero a = absurd (omega arith)
-last (x ∷ xs) (suc i) a = last xs i (omega arith)
+next : (k : ℕ) → k + 1 ≡ suc k
+next k = omega arith
 
--- a number above the one before it is passed
-pub rising_step : (xs : List ℕ) (k i n : ℕ) → i ≡ suc k → n ≡ i → i < length xs → get_or xs k 0 < get_or xs i 0
-    → rising (drop k xs) ≡ rising xs → rising (drop n xs) ≡ rising xs
-rising_step xs k i n p q b l e =
-    let above : get_or xs k 0 < get_or xs (suc k) 0 = subst (λ j. get_or xs k 0 < get_or xs j 0) p l in
-    ap (λ j. rising (drop j xs)) (q ∙ p) ∙ step xs k (omega arith) above ∙ e
-
--- a number not above the one before it ends the test
-pub rising_ends : (xs : List ℕ) (k i : ℕ) → i ≡ suc k → i < length xs → get_or xs i 0 ≤ get_or xs k 0
-    → rising (drop k xs) ≡ rising xs → false ≡ rising xs
-rising_ends xs k i p b l e =
-    let below : get_or xs (suc k) 0 ≤ get_or xs k 0 = subst (λ j. get_or xs j 0 ≤ get_or xs k 0) p l in
-    ends xs k (omega arith) below ∙ e
-
--- no number is left
-pub rising_last : (xs : List ℕ) (k : ℕ) → length xs ≤ suc k → rising (drop k xs) ≡ rising xs → true ≡ rising xs
-rising_last xs k b e = last xs k b ∙ e
+-- the answer of a test of each number and the one after it
+pub adjacent_answer : (xs : List ℕ) (r : Bool) → IsAllAdjacentAnswer (λ x y b. b ≡ ltb x y) xs r → r ≡ rising xs
+adjacent_answer xs true h = all_rise xs (λ k d l. subst (λ j. true ≡ ltb (get_or xs k d) (get_or xs j d)) (next k) (h k d (omega arith)))
+adjacent_answer xs false h = some_falls xs h.0 (omega (arith, h.1)) (λ d. subst (λ j. false ≡ ltb (get_or xs h.0 d) (get_or xs j d)) (next h.0) (h.2 d))
 
 -- the parts of a test that holds
 first_rises : (x y : ℕ) (xs : List ℕ) → true ≡ rising (x ∷ y ∷ xs) → x < y

@@ -33,9 +33,5 @@ pub const MAX_CELLS: usize = 16384;
 pub fn refusal_unless(taken: bool) -> Option<Refusal>
     ensures { result ≡ unless_taken taken }
 {
-    if taken {
-        None
-    } else {
-        Some(Refusal::BadSlices)
-    }
+    (!taken).then_some(Refusal::BadSlices)
 }

@@ -1,5 +1,6 @@
-ghost use Rattle.std.specs.Prelude.{◌≡◌, ℕ, ◌<◌, length, IfSome};
+ghost use Rattle.std.specs.Prelude.{◌≡◌, ℕ, ◌<◌, length, IfOk, ok_or};
 ghost use Rattle.store.specs.Dense.{dense_at, dense_place};
+ghost use Rattle.store.specs.Faults.{missing};
 ghost use Rattle.store.specs.Seen.{dense_seen, DenseWrote};
 ghost use Rattle.store.specs.Slices.{short, unless_taken, if_taken};
 
@@ -41,14 +42,14 @@ impl<'a> DenseStore<'a> {
     }
 
     /// The place of a cell's value.
-    fn place(&self, cell: u16) -> Option<usize>
-        ensures is { result ≡ dense_place self.now.taken (length self.now.values.now) cell }
-        ensures within { IfSome result (λ i. i < length self.now.values.now) }
+    fn place(&self, cell: u16) -> Result<usize, Fault>
+        ensures is { result ≡ ok_or (dense_place self.now.taken (length self.now.values.now) cell) (missing cell) }
+        ensures within { IfOk result (λ i. i < length self.now.values.now) }
     {
         if self.taken && (cell as usize) < self.values.len() {
-            Some(cell as usize)
+            Ok(cell as usize)
         } else {
-            None
+            Err(no_such_cell(cell))
         }
     }
 }
@@ -59,26 +60,17 @@ impl Store for DenseStore<'_> {
     ghost wrote = { DenseWrote };
 
     fn check(&self, cell: u16) -> Result<(), Fault> {
-        match self.place(cell) {
-            Some(_) => Ok(()),
-            None => Err(no_such_cell(cell)),
-        }
+        self.place(cell).map(|_| ())
     }
 
     fn read(&self, cell: u16) -> Result<u32, Fault> {
-        match self.place(cell) {
-            Some(i) => Ok(self.values[i]),
-            None => Err(no_such_cell(cell)),
-        }
+        let place = self.place(cell)?;
+        Ok(self.values[place])
     }
 
     fn write(&mut self, cell: u16, value: u32) -> Result<(), Fault> {
-        match self.place(cell) {
-            Some(i) => {
-                self.values[i] = value;
-                Ok(())
-            }
-            None => Err(no_such_cell(cell)),
-        }
+        let place = self.place(cell)?;
+        self.values[place] = value;
+        Ok(())
     }
 }

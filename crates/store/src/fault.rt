@@ -46,10 +46,7 @@ impl Fault {
 pub fn pass_up<T>(answer: Result<T, Fault>) -> Result<T, Fault>
     ensures { result ≡ raised answer }
 {
-    match answer {
-        Ok(value) => Ok(value),
-        Err(fault) => Err(fault.passed_up()),
-    }
+    answer.map_err(Fault::passed_up)
 }
 
 /// The fault of a cell that the store does not have.

@@ -1,4 +1,5 @@
-ghost use Rattle.std.specs.Prelude.{◌≡◌, ℕ, ◌<◌, ◌≤◌, length, IfSome};
+ghost use Rattle.std.specs.Prelude.{◌≡◌, ℕ, ◌<◌, ◌≤◌, length, IfOk, ok_or};
+ghost use Rattle.store.specs.Faults.{missing};
 ghost use Rattle.store.specs.Seen.{sparse_seen, SparseWrote};
 ghost use Rattle.store.specs.Slices.{rising, paired, unless_taken, if_taken};
 ghost use Rattle.store.specs.Sparse.{sought, sparse_place, sparse_at, listed_at};
@@ -20,12 +21,7 @@ pub struct SparseStore<'a, 'b> {
 fn rises(cells: &[u16]) -> bool
     ensures { result ≡ rising cells.now }
 {
-    for i in 1..cells.len() {
-        if cells[i] <= cells[i - 1] {
-            return false;
-        }
-    }
-    true
+    cells.is_sorted_by(|a, b| a < b)
 }
 
 /// Whether the slices are taken; halving then finds just the cells that are listed.
@@ -37,6 +33,8 @@ fn fit(cells: &[u16], values: &[u32]) -> bool
 }
 
 /// The place that a cell would have among rising ones, found by halving.
+// By hand: `binary_search` promises where a cell is and not in how many steps, and that fifteen halvings are enough is a
+// law about this very search (`FifteenHalvings`, over `sought`).
 fn seek(cells: &[u16], cell: u16) -> usize
     ensures { result ≡ sought cells.now cell }
 {
@@ -88,15 +86,15 @@ impl<'a, 'b> SparseStore<'a, 'b> {
     }
 
     /// The place of a cell's value.
-    fn place(&self, cell: u16) -> Option<usize>
-        ensures is { result ≡ sparse_place self.now.taken self.now.cells.now (length self.now.values.now) cell }
-        ensures within { IfSome result (λ i. i < length self.now.values.now) }
+    fn place(&self, cell: u16) -> Result<usize, Fault>
+        ensures is { result ≡ ok_or (sparse_place self.now.taken self.now.cells.now (length self.now.values.now) cell) (missing cell) }
+        ensures within { IfOk result (λ i. i < length self.now.values.now) }
     {
         let i = seek(self.cells, cell);
         if self.taken && i < self.cells.len() && self.cells[i] == cell && i < self.values.len() {
-            Some(i)
+            Ok(i)
         } else {
-            None
+            Err(no_such_cell(cell))
         }
     }
 }
@@ -107,26 +105,17 @@ impl Store for SparseStore<'_, '_> {
     ghost wrote = { SparseWrote };
 
     fn check(&self, cell: u16) -> Result<(), Fault> {
-        match self.place(cell) {
-            Some(_) => Ok(()),
-            None => Err(no_such_cell(cell)),
-        }
+        self.place(cell).map(|_| ())
     }
 
     fn read(&self, cell: u16) -> Result<u32, Fault> {
-        match self.place(cell) {
-            Some(i) => Ok(self.values[i]),
-            None => Err(no_such_cell(cell)),
-        }
+        let place = self.place(cell)?;
+        Ok(self.values[place])
     }
 
     fn write(&mut self, cell: u16, value: u32) -> Result<(), Fault> {
-        match self.place(cell) {
-            Some(i) => {
-                self.values[i] = value;
-                Ok(())
-            }
-            None => Err(no_such_cell(cell)),
-        }
+        let place = self.place(cell)?;
+        self.values[place] = value;
+        Ok(())
     }
 }
