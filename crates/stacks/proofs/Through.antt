@@ -1,13 +1,15 @@
 -- What comes through a layer that is taken apart. Assumes nothing.
-use Rattle.std.proofs.Common.{◌≡◌, ℕ, List, [], ◌∷◌, length, Ok, Err, Result, sym, ap, ◌∙◌, subst}
+use denote.Ref.{Bor}
+use Rattle.std.specs.Bool.{MatchBool}
+use Rattle.std.proofs.Common.{◌≡◌, ℕ, Bool, true, false, List, [], ◌∷◌, length, Ok, Err, Result, sym, ap, ◌∙◌, subst}
 use Rattle.store.specs.declared.fault.Fault.{Fault}
 use Rattle.store.specs.declared.Store.{Ghosts}
 use Rattle.store.specs.declared.dense.DenseStore.{DenseStore}
 use Rattle.store.specs.declared.sparse.SparseStore.{SparseStore}
 use Rattle.store.specs.Dense.{dense_place}
 use Rattle.store.specs.Seen.{dense_seen, DenseWrote, sparse_seen, SparseWrote, WroteRead}
-use Rattle.store.specs.Slices.{short, paired}
-use Rattle.store.specs.Sparse.{sparse_place}
+use Rattle.store.specs.Slices.{short, paired, set_at}
+use Rattle.store.specs.Sparse.{halved, place_of, sparse_place}
 use Rattle.write_buffer.specs.declared.buffer.WriteBuffer.{WriteBuffer}
 use Rattle.write_buffer.specs.declared.entries.Entry.{Entry}
 use Rattle.write_buffer.specs.Held.{entry}
@@ -62,22 +64,30 @@ abbrev pub sparse : Ghosts SparseStore
 sparse = record { at = sparse_seen; wrote = SparseWrote }
 
 -- the lent values, in the memory in which they were
-pub dense_memory : (r q p : Result ℕ Fault) (d e : DenseStore) (vs : List ℕ) → d.values.now ≡ vs → d.taken ≡ short vs
+pub dense_memory : (r q p : Result ℕ Fault) (d e : DenseStore) (vs : List ℕ) → d.values.now ≡ vs
     → CarriedThrough dense r q d p e
     → (e.values.now ≡ memory_after r q p (dense_place (short vs) (length vs)) vs) × (e.values.ghost_name ≡ d.values.ghost_name)
-dense_memory (Ok v) (Ok w) (Ok p) d e vs h t c = (c.2 ∙ rw (t, h), c.1)
-dense_memory (Ok v) (Ok w) (Err x) d e vs h t c = (ap (λ (s : DenseStore). s.values.now) c ∙ h, ap (λ (s : DenseStore). s.values.ghost_name) c)
-dense_memory (Ok v) (Err y) (Ok p) d e vs h t c = (ap (λ (s : DenseStore). s.values.now) c ∙ h, ap (λ (s : DenseStore). s.values.ghost_name) c)
-dense_memory (Ok v) (Err y) (Err x) d e vs h t c = (ap (λ (s : DenseStore). s.values.now) c ∙ h, ap (λ (s : DenseStore). s.values.ghost_name) c)
-dense_memory (Err z) q (Ok p) d e vs h t c = (ap (λ (s : DenseStore). s.values.now) c ∙ h, ap (λ (s : DenseStore). s.values.ghost_name) c)
-dense_memory (Err z) q (Err x) d e vs h t c = (ap (λ (s : DenseStore). s.values.now) c ∙ h, ap (λ (s : DenseStore). s.values.ghost_name) c)
+dense_memory (Ok v) (Ok w) (Ok p) d e vs h c = (c.1 ∙ rw h, c.0)
+dense_memory (Ok v) (Ok w) (Err x) d e vs h c = (ap (λ (s : DenseStore). s.values.now) c ∙ h, ap (λ (s : DenseStore). s.values.ghost_name) c)
+dense_memory (Ok v) (Err y) (Ok p) d e vs h c = (ap (λ (s : DenseStore). s.values.now) c ∙ h, ap (λ (s : DenseStore). s.values.ghost_name) c)
+dense_memory (Ok v) (Err y) (Err x) d e vs h c = (ap (λ (s : DenseStore). s.values.now) c ∙ h, ap (λ (s : DenseStore). s.values.ghost_name) c)
+dense_memory (Err z) q (Ok p) d e vs h c = (ap (λ (s : DenseStore). s.values.now) c ∙ h, ap (λ (s : DenseStore). s.values.ghost_name) c)
+dense_memory (Err z) q (Err x) d e vs h c = (ap (λ (s : DenseStore). s.values.now) c ∙ h, ap (λ (s : DenseStore). s.values.ghost_name) c)
 
-pub sparse_memory : (r q p : Result ℕ Fault) (d e : SparseStore) (cs vs : List ℕ) → d.cells.now ≡ cs → d.values.now ≡ vs → d.taken ≡ paired cs vs
+-- where a sparse store finds a cell: nowhere if its slices were refused
+found : (t : Bool) (d cells : Bor (List ℕ)) (n c : ℕ) → MatchBool t (d ≡ cells) (d.now ≡ []) → place_of d.now n c ≡ sparse_place t cells.now n c
+unfolding halved
+found true d cells n c h = ap (λ (x : Bor (List ℕ)). place_of x.now n c) h
+found false d cells n c h = ap (λ cs. place_of cs n c) h
+
+pub sparse_memory : (r q p : Result ℕ Fault) (d e : SparseStore) (cells : Bor (List ℕ)) (vs : List ℕ)
+    → MatchBool (paired cells.now vs) (d.cells ≡ cells) (d.cells.now ≡ []) → d.values.now ≡ vs
     → CarriedThrough sparse r q d p e
-    → (e.values.now ≡ memory_after r q p (sparse_place (paired cs vs) cs (length vs)) vs) × (e.values.ghost_name ≡ d.values.ghost_name)
-sparse_memory (Ok v) (Ok w) (Ok p) d e cs vs k h t c = (c.3 ∙ rw (t, k, h), c.2)
-sparse_memory (Ok v) (Ok w) (Err x) d e cs vs k h t c = (ap (λ (s : SparseStore). s.values.now) c ∙ h, ap (λ (s : SparseStore). s.values.ghost_name) c)
-sparse_memory (Ok v) (Err y) (Ok p) d e cs vs k h t c = (ap (λ (s : SparseStore). s.values.now) c ∙ h, ap (λ (s : SparseStore). s.values.ghost_name) c)
-sparse_memory (Ok v) (Err y) (Err x) d e cs vs k h t c = (ap (λ (s : SparseStore). s.values.now) c ∙ h, ap (λ (s : SparseStore). s.values.ghost_name) c)
-sparse_memory (Err z) q (Ok p) d e cs vs k h t c = (ap (λ (s : SparseStore). s.values.now) c ∙ h, ap (λ (s : SparseStore). s.values.ghost_name) c)
-sparse_memory (Err z) q (Err x) d e cs vs k h t c = (ap (λ (s : SparseStore). s.values.now) c ∙ h, ap (λ (s : SparseStore). s.values.ghost_name) c)
+    → (e.values.now ≡ memory_after r q p (sparse_place (paired cells.now vs) cells.now (length vs)) vs) × (e.values.ghost_name ≡ d.values.ghost_name)
+sparse_memory (Ok v) (Ok w) (Ok p) d e cells vs k h c =
+    (c.2 ∙ rw h (ap (λ i. set_at i vs v) (found (paired cells.now vs) d.cells cells (length vs) p k)), c.1)
+sparse_memory (Ok v) (Ok w) (Err x) d e cells vs k h c = (ap (λ (s : SparseStore). s.values.now) c ∙ h, ap (λ (s : SparseStore). s.values.ghost_name) c)
+sparse_memory (Ok v) (Err y) (Ok p) d e cells vs k h c = (ap (λ (s : SparseStore). s.values.now) c ∙ h, ap (λ (s : SparseStore). s.values.ghost_name) c)
+sparse_memory (Ok v) (Err y) (Err x) d e cells vs k h c = (ap (λ (s : SparseStore). s.values.now) c ∙ h, ap (λ (s : SparseStore). s.values.ghost_name) c)
+sparse_memory (Err z) q (Ok p) d e cells vs k h c = (ap (λ (s : SparseStore). s.values.now) c ∙ h, ap (λ (s : SparseStore). s.values.ghost_name) c)
+sparse_memory (Err z) q (Err x) d e cells vs k h c = (ap (λ (s : SparseStore). s.values.now) c ∙ h, ap (λ (s : SparseStore). s.values.ghost_name) c)

@@ -6,28 +6,28 @@ use Rattle.store.specs.declared.sparse.SparseStore.{SparseStore}
 use Rattle.store.specs.declared.window.Window.{Window}
 use Rattle.store.specs.declared.Store.{Ghosts}
 use Rattle.store.specs.Meaning.{Meaning}
-use Rattle.store.specs.Slices.{if_taken, set_at}
+use Rattle.store.specs.Slices.{short, if_taken, set_at}
 use Rattle.store.specs.Dense.{dense_at, dense_place}
-use Rattle.store.specs.Sparse.{sparse_at, sparse_place}
+use Rattle.store.specs.Sparse.{place_of, sparse_at}
 use Rattle.store.specs.Windows.{placed, window_at}
 
 abbrev pub dense_seen : DenseStore → Meaning
-dense_seen s = if_taken s.taken (dense_at s.values.now)
+dense_seen s = if_taken (short s.values.now) (dense_at s.values.now)
 
 -- the same lent memory, with the value at its place
 abbrev pub DenseWrote : DenseStore → ℕ → ℕ → DenseStore → Type 0
 DenseWrote s c w t =
-    (t.taken ≡ s.taken) × (t.values.ghost_name ≡ s.values.ghost_name)
-    × (t.values.now ≡ set_at (dense_place s.taken (length s.values.now) c) s.values.now w)
+    (t.values.ghost_name ≡ s.values.ghost_name)
+    × (t.values.now ≡ set_at (dense_place (short s.values.now) (length s.values.now) c) s.values.now w)
 
 abbrev pub sparse_seen : SparseStore → Meaning
-sparse_seen s = if_taken s.taken (sparse_at s.cells.now s.values.now)
+sparse_seen s = sparse_at s.cells.now s.values.now
 
 -- the same lent memory, with the value at its place, and the same cell numbers
 abbrev pub SparseWrote : SparseStore → ℕ → ℕ → SparseStore → Type 0
 SparseWrote s c w t =
-    (t.taken ≡ s.taken) × (t.cells ≡ s.cells) × (t.values.ghost_name ≡ s.values.ghost_name)
-    × (t.values.now ≡ set_at (sparse_place s.taken s.cells.now (length s.values.now) c) s.values.now w)
+    (t.cells ≡ s.cells) × (t.values.ghost_name ≡ s.values.ghost_name)
+    × (t.values.now ≡ set_at (place_of s.cells.now (length s.values.now) c) s.values.now w)
 
 -- over any store below, whose ghost members are G
 abbrev pub window_seen : {X : Type 0} → Ghosts X → Window X → Meaning

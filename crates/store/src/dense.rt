@@ -11,9 +11,8 @@ use super::{Built, Fault, Store};
 /// The cells below the length of a lent slice, with their values in it.
 #[derive(Drop)]
 pub struct DenseStore<'a> {
+    /// A slice that is too long shows no cells; it is kept to be given back.
     values: &'a mut [u32],
-    /// A slice that was refused shows no cells; it is kept to be given back.
-    taken: bool,
 }
 
 impl<'a> DenseStore<'a> {
@@ -21,13 +20,12 @@ impl<'a> DenseStore<'a> {
     pub fn new(values: &'a mut [u32]) -> Built<DenseStore<'a>>
         ensures answers { result.refused ≡ unless_taken (short values.old) }
         ensures means { dense_seen result.store ≡ if_taken (short values.old) (dense_at values.old) }
-        ensures taken { result.store.taken ≡ short values.old }
         ensures holds { result.store.values.now ≡ values.old }
         ensures lent { result.store.values.ghost_name ≡ values.entry.ghost_name }
     {
         let taken = values.len() <= MAX_CELLS;
         Built {
-            store: DenseStore { values, taken },
+            store: DenseStore { values },
             refused: refusal_unless(taken),
         }
     }
@@ -37,16 +35,15 @@ impl<'a> DenseStore<'a> {
         ensures holds { result.now ≡ self.entry.values.now }
         ensures lent { result.ghost_name ≡ self.entry.values.ghost_name }
     {
-        let DenseStore { values, taken: _ } = self;
-        values
+        self.values
     }
 
     /// The place of a cell's value.
     fn place(&self, cell: u16) -> Result<usize, Fault>
-        ensures is { result ≡ ok_or (dense_place self.now.taken (length self.now.values.now) cell) (missing cell) }
+        ensures is { result ≡ ok_or (dense_place (short self.now.values.now) (length self.now.values.now) cell) (missing cell) }
         ensures within { IfOk result (λ i. i < length self.now.values.now) }
     {
-        if self.taken && (cell as usize) < self.values.len() {
+        if self.values.len() <= MAX_CELLS && (cell as usize) < self.values.len() {
             Ok(cell as usize)
         } else {
             Err(no_such_cell(cell))

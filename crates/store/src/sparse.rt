@@ -1,8 +1,8 @@
-ghost use Rattle.std.specs.Prelude.{◌≡◌, ℕ, ◌<◌, ◌≤◌, length, IfOk, ok_or};
+ghost use Rattle.std.specs.Prelude.{◌≡◌, ℕ, ◌<◌, ◌≤◌, length, [], IfOk, ok_or, MatchBool};
 ghost use Rattle.store.specs.Faults.{missing};
 ghost use Rattle.store.specs.Seen.{sparse_seen, SparseWrote};
 ghost use Rattle.store.specs.Slices.{rising, paired, unless_taken, if_taken};
-ghost use Rattle.store.specs.Sparse.{sought, sparse_place, sparse_at, listed_at};
+ghost use Rattle.store.specs.Sparse.{sought, place_of, sparse_at, listed_at};
 
 use super::build::{MAX_CELLS, refusal_unless};
 use super::fault::no_such_cell;
@@ -11,10 +11,9 @@ use super::{Built, Fault, Store};
 /// The cells that a lent slice lists, with their values at the same places of another.
 #[derive(Drop)]
 pub struct SparseStore<'a, 'b> {
+    /// No cells if the slices were refused; the values are kept to be given back.
     cells: &'a [u16],
     values: &'b mut [u32],
-    /// Slices that were refused show no cells; they are kept to be given back.
-    taken: bool,
 }
 
 /// Whether each number is above the one before it.
@@ -56,17 +55,15 @@ impl<'a, 'b> SparseStore<'a, 'b> {
     pub fn new(cells: &'a [u16], values: &'b mut [u32]) -> Built<SparseStore<'a, 'b>>
         ensures answers { result.refused ≡ unless_taken (paired cells.now values.old) }
         ensures means { sparse_seen result.store ≡ if_taken (paired cells.now values.old) (listed_at cells.now values.old) }
-        ensures taken { result.store.taken ≡ paired cells.now values.old }
-        ensures lists { result.store.cells ≡ cells.entry }
+        ensures lists { MatchBool (paired cells.now values.old) (result.store.cells ≡ cells.entry) (result.store.cells.now ≡ []) }
         ensures holds { result.store.values.now ≡ values.old }
         ensures lent { result.store.values.ghost_name ≡ values.entry.ghost_name }
     {
         let taken = fit(cells, values);
         Built {
             store: SparseStore {
-                cells,
+                cells: if taken { cells } else { &[] },
                 values,
-                taken,
             },
             refused: refusal_unless(taken),
         }
@@ -77,21 +74,16 @@ impl<'a, 'b> SparseStore<'a, 'b> {
         ensures holds { result.now ≡ self.entry.values.now }
         ensures lent { result.ghost_name ≡ self.entry.values.ghost_name }
     {
-        let SparseStore {
-            cells: _,
-            values,
-            taken: _,
-        } = self;
-        values
+        self.values
     }
 
     /// The place of a cell's value.
     fn place(&self, cell: u16) -> Result<usize, Fault>
-        ensures is { result ≡ ok_or (sparse_place self.now.taken self.now.cells.now (length self.now.values.now) cell) (missing cell) }
+        ensures is { result ≡ ok_or (place_of self.now.cells.now (length self.now.values.now) cell) (missing cell) }
         ensures within { IfOk result (λ i. i < length self.now.values.now) }
     {
         let i = seek(self.cells, cell);
-        if self.taken && i < self.cells.len() && self.cells[i] == cell && i < self.values.len() {
+        if i < self.cells.len() && self.cells[i] == cell && i < self.values.len() {
             Ok(i)
         } else {
             Err(no_such_cell(cell))

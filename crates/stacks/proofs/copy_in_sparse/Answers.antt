@@ -19,7 +19,7 @@ returns c =
     let carries : CarriedThrough sparse (stack_over f base len from) (window_at f base len to) s (placed base len to) t
     = subst (λ (y : Meaning). CarriedThrough sparse (stack_over y base len from) (window_at y base len to) s (placed base len to) t) c.new-store.ensures.means
     c.copy_windowed-below.ensures.carries in
-    let left = sparse_memory (stack_over f base len from) (window_at f base len to) (placed base len to) s t c.args.cells.now c.args.values.now (ap (λ x. x.now) c.new-store.ensures.lists) c.new-store.ensures.holds c.new-store.ensures.taken carries in
+    let left = sparse_memory (stack_over f base len from) (window_at f base len to) (placed base len to) s t c.args.cells c.args.values.now c.new-store.ensures.lists c.new-store.ensures.holds carries in
     let back = c.into_values.ensures.lent ∙ left.1 ∙ c.new-store.ensures.lent in
     let holds = c.into_values.ensures.holds ∙ left.0 in
     record {
