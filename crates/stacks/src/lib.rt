@@ -6,11 +6,12 @@ ghost use Rattle.store.specs.Copies.{copy_answer};
 ghost use Rattle.store.specs.Windows.{placed, window_at};
 ghost use Rattle.write_buffer.specs.Buffered.{buffer_at};
 ghost use Rattle.store.specs.Dense.{dense_place};
+ghost use Rattle.store.specs.Seen.{slice_seen};
 ghost use Rattle.store.specs.Sparse.{sparse_place};
 ghost use Rattle.store.specs.Slices.{short, paired};
 ghost use Rattle.stacks.specs.Carried.{CarriedTo, CarriedThrough, stack_over, dense_over, sparse_over, memory_after};
 
-use store::{DenseStore, Fault, SparseStore, Store, Window, copy};
+use store::{DenseStore, Fault, Layout, SliceStore, SparseStore, Store, Window, copy};
 use write_buffer::WriteBuffer;
 
 /// What a copy was made above, with its answer.
@@ -57,12 +58,7 @@ pub fn copy_in_dense<'a>(
     ensures memory { result.below.now ≡ memory_after (stack_over (dense_over values.old) base len from) (window_at (dense_over values.old) base len to) (placed base len to) (dense_place (short values.old) (length values.old)) values.old }
     ensures lent { result.below.ghost_name ≡ values.entry.ghost_name }
 {
-    let store = DenseStore::new(values).store;
-    let Copied { below, answer } = copy_windowed(store, base, len, from, to);
-    Copied {
-        below: below.into_values(),
-        answer,
-    }
+    copy_in(DenseStore::new(values).store, base, len, from, to)
 }
 
 /// Copies one cell to another through a buffer over a window over a sparse store, and gives the lent values back.
@@ -78,7 +74,21 @@ pub fn copy_in_sparse<'a>(
     ensures memory { result.below.now ≡ memory_after (stack_over (sparse_over cells.now values.old) base len from) (window_at (sparse_over cells.now values.old) base len to) (placed base len to) (sparse_place (paired cells.now values.old) cells.now (length values.old)) values.old }
     ensures lent { result.below.ghost_name ≡ values.entry.ghost_name }
 {
-    let store = SparseStore::new(cells, values).store;
+    copy_in(SparseStore::new(cells, values).store, base, len, from, to)
+}
+
+/// Copies one cell to another through a buffer over a window over a store in lent memory, and gives the memory back.
+fn copy_in<'a, L: Layout>(
+    store: SliceStore<'a, L>,
+    base: u16,
+    len: u16,
+    from: u16,
+    to: u16,
+) -> Copied<&'a mut [u32]>
+    ensures answers { result.answer ≡ copy_answer (stack_over (slice_seen L.Layout store.entry) base len) from to }
+    ensures memory { result.below.now ≡ memory_after (stack_over (slice_seen L.Layout store.entry) base len from) (window_at (slice_seen L.Layout store.entry) base len to) (placed base len to) (L.place store.entry.layout (length store.entry.values.now)) store.entry.values.now }
+    ensures lent { result.below.ghost_name ≡ store.entry.values.ghost_name }
+{
     let Copied { below, answer } = copy_windowed(store, base, len, from, to);
     Copied {
         below: below.into_values(),

@@ -1,3 +1,4 @@
 pub mod Halving
+pub mod Places
 pub mod Rising
 pub mod Writes

@@ -1,33 +1,41 @@
 -- What each store means, and what a write makes of it. Assumes nothing.
-use Rattle.std.specs.Prelude.{◌≡◌, ℕ, length, Ok, Err, Result}
+use Rattle.std.specs.Prelude.{◌≡◌, ℕ, length, Option, Ok, Err, Result, nat_le}
 use Rattle.store.specs.declared.fault.Fault.{Fault}
-use Rattle.store.specs.declared.dense.DenseStore.{DenseStore}
-use Rattle.store.specs.declared.sparse.SparseStore.{SparseStore}
+use Rattle.store.specs.declared.dense.Dense.{Dense}
+use Rattle.store.specs.declared.sparse.Listed.{Listed}
+use Rattle.store.specs.declared.slices.SliceStore.{SliceStore}
+use Rattle.store.specs.declared.layout.Layout as Layout
 use Rattle.store.specs.declared.window.Window.{Window}
 use Rattle.store.specs.declared.Store.{Ghosts}
 use Rattle.store.specs.Meaning.{Meaning}
-use Rattle.store.specs.Slices.{short, if_taken, set_at}
-use Rattle.store.specs.Dense.{dense_at, dense_place}
-use Rattle.store.specs.Sparse.{place_of, sparse_at}
+use Rattle.store.specs.Slices.{set_at}
+use Rattle.store.specs.Dense.{dense_place}
+use Rattle.store.specs.Sparse.{place_of, value_at}
 use Rattle.store.specs.Windows.{placed, window_at}
 
-abbrev pub dense_seen : DenseStore → Meaning
-dense_seen s = if_taken (short s.values.now) (dense_at s.values.now)
+-- a store over a slice, with any layout, whose ghost members are L: each cell has the value at its place
+abbrev pub slice_seen : {X : Type 0} → Layout.Ghosts X → SliceStore X → Meaning
+slice_seen L s c = value_at (L.place s.layout (length s.values.now) c) s.values.now c
 
--- the same lent memory, with the value at its place
-abbrev pub DenseWrote : DenseStore → ℕ → ℕ → DenseStore → Type 0
-DenseWrote s c w t =
-    (t.values.ghost_name ≡ s.values.ghost_name)
-    × (t.values.now ≡ set_at (dense_place (short s.values.now) (length s.values.now) c) s.values.now w)
+-- the same layout and the same lent memory, with the value at its place
+abbrev pub SliceWrote : {X : Type 0} → Layout.Ghosts X → SliceStore X → ℕ → ℕ → SliceStore X → Type 0
+SliceWrote L s c w t =
+    (t.layout ≡ s.layout) × (t.values.ghost_name ≡ s.values.ghost_name)
+    × (t.values.now ≡ set_at (L.place s.layout (length s.values.now) c) s.values.now w)
 
-abbrev pub sparse_seen : SparseStore → Meaning
-sparse_seen s = sparse_at s.cells.now s.values.now
+-- the place with the cell's number, in a slice that is not too long
+abbrev pub dense_placed : Dense → ℕ → ℕ → Option ℕ
+dense_placed d n = dense_place (nat_le n 16384) n
 
--- the same lent memory, with the value at its place, and the same cell numbers
-abbrev pub SparseWrote : SparseStore → ℕ → ℕ → SparseStore → Type 0
-SparseWrote s c w t =
-    (t.cells ≡ s.cells) × (t.values.ghost_name ≡ s.values.ghost_name)
-    × (t.values.now ≡ set_at (place_of s.cells.now (length s.values.now) c) s.values.now w)
+abbrev pub dense_seen : SliceStore Dense → Meaning
+dense_seen = slice_seen record { place = dense_placed }
+
+-- the place where halving finds the cell
+abbrev pub listed_placed : Listed → ℕ → ℕ → Option ℕ
+listed_placed l = place_of l.cells.now
+
+abbrev pub sparse_seen : SliceStore Listed → Meaning
+sparse_seen = slice_seen record { place = listed_placed }
 
 -- over any store below, whose ghost members are G
 abbrev pub window_seen : {X : Type 0} → Ghosts X → Window X → Meaning

@@ -9,6 +9,8 @@ mod client;
 mod dense;
 mod fault;
 mod laws;
+mod layout;
+mod slices;
 mod sparse;
 mod window;
 
@@ -17,6 +19,8 @@ pub use client::copy;
 pub use dense::DenseStore;
 pub use fault::{Cause, Fault, pass_up};
 pub use laws::{halving_is_short, windows_show_their_part, writes_are_kept};
+pub use layout::Layout;
+pub use slices::SliceStore;
 pub use sparse::SparseStore;
 pub use window::Window;
 

@@ -1,20 +1,22 @@
-ghost use Rattle.std.specs.Prelude.{◌≡◌, ℕ, ◌<◌, ◌≤◌, length, [], IfOk, ok_or, MatchBool};
-ghost use Rattle.store.specs.Faults.{missing};
-ghost use Rattle.store.specs.Seen.{sparse_seen, SparseWrote};
+ghost use Rattle.std.proofs.Common.{rules};
+ghost use Rattle.std.specs.Prelude.{◌≡◌, ℕ, ◌<◌, ◌≤◌, length, [], IfSome, MatchBool};
+ghost use Rattle.store.specs.Seen.{listed_placed, sparse_seen};
 ghost use Rattle.store.specs.Slices.{rising, paired, unless_taken, if_taken};
 ghost use Rattle.store.specs.Sparse.{sought, place_of, sparse_at, listed_at};
 
+use super::Built;
 use super::build::{MAX_CELLS, refusal_unless};
-use super::fault::no_such_cell;
-use super::{Built, Fault, Store};
+use super::layout::Layout;
+use super::slices::SliceStore;
 
-/// The cells that a lent slice lists, with their values at the same places of another.
+/// The value of each cell stands at the place where a list of rising numbers has the cell.
 #[derive(Drop)]
-pub struct SparseStore<'a, 'b> {
-    /// No cells if the slices were refused; the values are kept to be given back.
+pub struct Listed<'a> {
     cells: &'a [u16],
-    values: &'b mut [u32],
 }
+
+/// The cells that a lent slice lists, with their values at the same places of another; no cells if the slices are refused.
+pub type SparseStore<'a, 'b> = SliceStore<'b, Listed<'a>>;
 
 /// Whether each number is above the one before it.
 fn rises(cells: &[u16]) -> bool
@@ -50,64 +52,37 @@ fn seek(cells: &[u16], cell: u16) -> usize
     low
 }
 
+impl Layout for Listed<'_> {
+    ghost place = { listed_placed };
+
+    ghost within = { λ it n c i p. Prim.search rules };
+
+    ghost apart = { λ it n c d i p q. Prim.search rules };
+
+    fn place(&self, len: usize, cell: u16) -> Option<usize> {
+        let place = seek(self.cells, cell);
+        (self.cells.get(place) == Some(&cell) && place < len).then_some(place)
+    }
+}
+
 impl<'a, 'b> SparseStore<'a, 'b> {
     /// A store over at most 16,384 strictly rising cell numbers and as many values.
     pub fn new(cells: &'a [u16], values: &'b mut [u32]) -> Built<SparseStore<'a, 'b>>
         ensures answers { result.refused ≡ unless_taken (paired cells.now values.old) }
         ensures means { sparse_seen result.store ≡ if_taken (paired cells.now values.old) (listed_at cells.now values.old) }
-        ensures lists { MatchBool (paired cells.now values.old) (result.store.cells ≡ cells.entry) (result.store.cells.now ≡ []) }
+        ensures lists { MatchBool (paired cells.now values.old) (result.store.layout.cells ≡ cells.entry) (result.store.layout.cells.now ≡ []) }
         ensures holds { result.store.values.now ≡ values.old }
         ensures lent { result.store.values.ghost_name ≡ values.entry.ghost_name }
     {
         let taken = fit(cells, values);
         Built {
-            store: SparseStore {
-                cells: if taken { cells } else { &[] },
+            store: SliceStore {
+                layout: Listed {
+                    cells: if taken { cells } else { &[] },
+                },
                 values,
             },
             refused: refusal_unless(taken),
         }
-    }
-
-    /// The lent slice of values.
-    pub fn into_values(self) -> &'b mut [u32]
-        ensures holds { result.now ≡ self.entry.values.now }
-        ensures lent { result.ghost_name ≡ self.entry.values.ghost_name }
-    {
-        self.values
-    }
-
-    /// The place of a cell's value.
-    fn place(&self, cell: u16) -> Result<usize, Fault>
-        ensures is { result ≡ ok_or (place_of self.now.cells.now (length self.now.values.now) cell) (missing cell) }
-        ensures within { IfOk result (λ i. i < length self.now.values.now) }
-    {
-        let i = seek(self.cells, cell);
-        if i < self.cells.len() && self.cells[i] == cell && i < self.values.len() {
-            Ok(i)
-        } else {
-            Err(no_such_cell(cell))
-        }
-    }
-}
-
-impl Store for SparseStore<'_, '_> {
-    ghost at = { sparse_seen };
-
-    ghost wrote = { SparseWrote };
-
-    fn check(&self, cell: u16) -> Result<(), Fault> {
-        self.place(cell).map(|_| ())
-    }
-
-    fn read(&self, cell: u16) -> Result<u32, Fault> {
-        let place = self.place(cell)?;
-        Ok(self.values[place])
-    }
-
-    fn write(&mut self, cell: u16, value: u32) -> Result<(), Fault> {
-        let place = self.place(cell)?;
-        self.values[place] = value;
-        Ok(())
     }
 }
