@@ -14,33 +14,13 @@ rewritten_twice : (r : Result ℕ Fault) (v w : ℕ) → rewritten (rewritten r 
 rewritten_twice (Ok x) v w = refl
 rewritten_twice (Err e) v w = refl
 
--- a second write to a cell replaces the first
-put_twice : (f : Meaning) (c v w : ℕ) → put (put f c v) c w ≡ put f c w
-put_twice f c v w =
-    fun_ext
-    (λ k.
-    elim (cases_eq k c) [
-      | inl q ↦ rw (eq-eqb k c q) (rewritten_twice (f k) v w)
-      | inr n ↦ rw (ne_eqb k c n)
-    ])
-
--- writes to two cells may change places
-put_swap : (f : Meaning) (c d v w : ℕ) → (c ≡ d → ⊥) → put (put f c v) d w ≡ put (put f d w) c v
-put_swap f c d v w n =
-    fun_ext
-    (λ k.
-    elim (cases_eq k c) [
-      | inl q ↦ let other : k ≢ d = λ p. n (sym q ∙ p) in rw (eq-eqb k c q, ne_eqb k d other)
-      | inr m ↦ rw (ne_eqb k c m)
-    ])
-
-rewritten-put : (f : Meaning) (c v k w : ℕ) → rewritten (put f c v k) w ≡ rewritten (f k) w
-rewritten-put f c v k w =
+rewritten_put : (f : Meaning) (c v k w : ℕ) → rewritten (put f c v k) w ≡ rewritten (f k) w
+rewritten_put f c v k w =
     elim (cases_eq k c) [ inl q ↦ rw (eq-eqb k c q) (rewritten_twice (f k) v w) | inr n ↦ rw (ne_eqb k c n) ]
 
-pub laid-checked : (f : Meaning) (es : List Entry) (k : ℕ) → checked (laid f es k) ≡ checked (f k)
-laid-checked f [] k = refl
-laid-checked f (e ∷ es) k = laid-checked (put f e.cell e.value) es k ∙ cells_stay f e.cell e.value k
+pub laid_checked : (f : Meaning) (es : List Entry) (k : ℕ) → checked (laid f es k) ≡ checked (f k)
+laid_checked f [] k = refl
+laid_checked f (e ∷ es) k = laid_checked (put f e.cell e.value) es k ∙ cells_stay f e.cell e.value k
 
 laid_push : (f : Meaning) (es : List Entry) (c v : ℕ) → laid f (es ++ (entry c v ∷ [])) ≡ put (laid f es) c v
 laid_push f [] c v = refl
@@ -53,7 +33,7 @@ over r (Some v) = rewritten r v
 
 under_step : (f : Meaning) (e : Entry) (k : ℕ) (o : Option ℕ)
     → over (put f e.cell e.value k) o ≡ over (f k) (or_else o (cond (eqb e.cell k) (Some e.value) None))
-under_step f e k (Some v) = rewritten-put f e.cell e.value k v
+under_step f e k (Some v) = rewritten_put f e.cell e.value k v
 under_step f e k None =
     elim (cases_eq e.cell k) [
       | inl a ↦ rw (eq-eqb k e.cell (sym a), eq-eqb e.cell k a)
@@ -98,8 +78,8 @@ renewed_other (e ∷ es) c v k m =
     ]
 
 -- another value for a held cell is as a write above all
-laid-renewed : (f : Meaning) (es : List Entry) (c v old : ℕ) → held_value es c ≡ Some old → laid f (renewed es c v) ≡ put (laid f es) c v
-laid-renewed f es c v old h =
+laid_renewed : (f : Meaning) (es : List Entry) (c v old : ℕ) → held_value es c ≡ Some old → laid f (renewed es c v) ≡ put (laid f es) c v
+laid_renewed f es c v old h =
     fun_ext
     (λ k.
     laid_reads f (renewed es c v) k
@@ -114,7 +94,7 @@ laid-renewed f es c v old h =
 
 written_as_held : (f : Meaning) (es : List Entry) (c v : ℕ) (o : Option ℕ) → held_value es c ≡ o
     → laid (sunk f (sent_by o es)) (written_by o es c v) ≡ put (laid f es) c v
-written_as_held f es c v (Some old) h = laid-renewed f es c v old h
+written_as_held f es c v (Some old) h = laid_renewed f es c v old h
 written_as_held f [] c v None h = refl
 written_as_held f (e ∷ es) c v None h =
     elim (cases_lt (length (e ∷ es)) 16) [
@@ -123,15 +103,15 @@ written_as_held f (e ∷ es) c v None h =
     ]
 
 -- whatever a write sends below, what is laid over it shows that write and nothing else
-pub laid-written : (f : Meaning) (es : List Entry) (c v : ℕ) → laid (sunk f (sent es c)) (written es c v) ≡ put (laid f es) c v
-laid-written f es c v = written_as_held f es c v (held_value es c) refl
+pub laid_written : (f : Meaning) (es : List Entry) (c v : ℕ) → laid (sunk f (sent es c)) (written es c v) ≡ put (laid f es) c v
+laid_written f es c v = written_as_held f es c v (held_value es c) refl
 
-raised-rewritten : (r : Result ℕ Fault) (v : ℕ) → raised (rewritten r v) ≡ rewritten (raised r) v
-raised-rewritten (Ok x) v = refl
-raised-rewritten (Err e) v = refl
+raised_rewritten : (r : Result ℕ Fault) (v : ℕ) → raised (rewritten r v) ≡ rewritten (raised r) v
+raised_rewritten (Ok x) v = refl
+raised_rewritten (Err e) v = refl
 
-pub raised-put : (f : Meaning) (c v : ℕ) → ◌≡◌ {A = Meaning} (λ k. raised (put f c v k)) (put (λ k. raised (f k)) c v)
-raised-put f c v =
+pub raised_put : (f : Meaning) (c v : ℕ) → ◌≡◌ {A = Meaning} (λ k. raised (put f c v k)) (put (λ k. raised (f k)) c v)
+raised_put f c v =
     fun_ext
     (λ k.
-    elim (cases_eq k c) [ inl q ↦ rw (eq-eqb k c q) (raised-rewritten (f k) v) | inr n ↦ rw (ne_eqb k c n) ])
+    elim (cases_eq k c) [ inl q ↦ rw (eq-eqb k c q) (raised_rewritten (f k) v) | inr n ↦ rw (ne_eqb k c n) ])

@@ -3,7 +3,7 @@ ghost use Rattle.store.specs.Meaning.{checked, put};
 ghost use Rattle.write_buffer.specs.Buffered.{laid, buffer_at, sunk, sent_if};
 ghost use Rattle.write_buffer.specs.Seen.{held_by, buffer_seen, BufferWrote, AllSent};
 
-use super::entries::Entries;
+use super::entries::{Entries, Entry};
 use store::{Fault, Store, pass_up};
 
 /// A store with up to sixteen written values held back above it.
@@ -59,30 +59,16 @@ impl<S: Store> WriteBuffer<S> {
         below
     }
 
-    /// Tells whether the store below has a cell.
-    fn check_below(&self, cell: u16) -> Result<(), Fault>
-        ensures { result ≡ checked (buffer_seen S.Store self.now cell) }
-    {
-        pass_up(self.below.check(cell))
-    }
-
-    /// The value that is held back, else the value below.
-    fn value(&self, cell: u16) -> Result<u32, Fault>
-        ensures { result ≡ buffer_seen S.Store self.now cell }
-    {
-        let value = pass_up(self.below.read(cell))?;
-        Ok(self.entries.value_of(cell).unwrap_or(value))
-    }
-
     /// Holds a value back, and sends below what has to go for it.
+    // Apart from `write`: what the buffer then means follows from `went` and `sends`.
+    #[tactic(auto, using(crate::proofs::Laid::laid_reads))]
     fn hold_back(&mut self, cell: u16, value: u32) -> Result<(), Fault>
         ensures answers { result ≡ checked (buffer_seen S.Store self.old cell) }
-        ensures sets { buffer_seen S.Store self.new ≡ put (buffer_seen S.Store self.old) cell value }
         ensures went { BufferWrote S.Store self.old cell value self.new }
         ensures sends { S.Store.at self.new.below ≡ sunk (S.Store.at self.old.below) (sent_if (S.Store.at self.old.below cell) (held_by self.old) cell) }
     {
         self.check(cell)?;
-        if let Some(gone) = self.entries.hold(cell, value) {
+        if let Some(gone) = self.entries.hold(Entry { cell, value }) {
             let _ = self.below.write(gone.cell, gone.value);
         }
         Ok(())
@@ -94,12 +80,15 @@ impl<S: Store> Store for WriteBuffer<S> {
 
     ghost wrote = { BufferWrote S.Store };
 
+    #[tactic(auto, using(crate::proofs::Laid::laid_reads))]
     fn check(&self, cell: u16) -> Result<(), Fault> {
-        self.check_below(cell)
+        pass_up(self.below.check(cell))
     }
 
+    #[tactic(auto, using(crate::proofs::Laid::laid_reads))]
     fn read(&self, cell: u16) -> Result<u32, Fault> {
-        self.value(cell)
+        let value = pass_up(self.below.read(cell))?;
+        Ok(self.entries.value_of(cell).unwrap_or(value))
     }
 
     fn write(&mut self, cell: u16, value: u32) -> Result<(), Fault>

@@ -1,0 +1,102 @@
+ghost use Rattle.std.specs.Prelude.{◌≡◌, ◌<◌, [], ◌∷◌, ◌++◌, drop};
+ghost use Rattle.write_buffer.specs.Held.{by_age, held_value, renewed, oldest, with_room, evicted, written, sent};
+
+use super::{Entries, Entry};
+
+impl Entries {
+    /// A table that holds nothing.
+    pub fn new() -> Entries
+        ensures { by_age result ≡ [] }
+    {
+        Entries {
+            slots: [Entry { cell: 0, value: 0 }; 16],
+            count: 0,
+        }
+    }
+
+    /// What is held.
+    fn as_slice(&self) -> &[Entry]
+        ensures { result.now ≡ by_age self.now }
+    {
+        &self.slots[..self.count]
+    }
+
+    /// The value that is held for a cell.
+    pub fn value_of(&self, cell: u16) -> Option<u32>
+        ensures { result ≡ held_value (by_age self.now) cell }
+    {
+        newest(self.as_slice(), cell)
+    }
+
+    /// Takes out the one held longest.
+    pub fn take_oldest(&mut self) -> Option<Entry>
+        ensures gives { result ≡ oldest (by_age self.old) }
+        ensures leaves { by_age self.new ≡ drop 1 (by_age self.old) }
+        ensures room { self.new.count < 16 }
+    {
+        let oldest = self.as_slice().first().copied()?;
+        self.slots.rotate_left(1);
+        self.count -= 1;
+        Some(oldest)
+    }
+
+    /// Takes out the one held longest, if sixteen are held.
+    fn make_room(&mut self) -> Option<Entry>
+        ensures gives { result ≡ evicted (by_age self.old) }
+        ensures leaves { by_age self.new ≡ with_room (by_age self.old) }
+        ensures room { self.new.count < 16 }
+    {
+        if self.count < 16 {
+            None
+        } else {
+            self.take_oldest()
+        }
+    }
+
+    /// Puts an entry behind the others.
+    fn push(&mut self, latest: Entry)
+        requires { self.old.count < 16 }
+        ensures { by_age self.new ≡ by_age self.old ++ (latest ∷ []) }
+    {
+        self.slots[self.count] = latest;
+        self.count += 1;
+    }
+
+    /// Holds a value for a cell of the store, and gives the entry that has to go for it.
+    #[tactic(auto, using(crate::proofs::Table::renewed_take))]
+    pub fn hold(&mut self, latest: Entry) -> Option<Entry>
+        ensures gives { result ≡ sent (by_age self.old) latest.cell }
+        ensures leaves { by_age self.new ≡ written (by_age self.old) latest.cell latest.value }
+    {
+        if self.value_of(latest.cell).is_some() {
+            // The whole array, since a part of it cannot be lent here: a slot behind the count holds nothing, whatever stands there.
+            renew(&mut self.slots, latest);
+            return None;
+        }
+        let gone = self.make_room();
+        self.push(latest);
+        gone
+    }
+}
+
+/// The value of the youngest entry of a cell.
+fn newest(entries: &[Entry], cell: u16) -> Option<u32>
+    ensures { result ≡ held_value entries.now cell }
+{
+    entries
+        .iter()
+        .rev()
+        .find(|entry| entry.cell == cell)
+        .map(|entry| entry.value)
+}
+
+/// Gives the entries of a cell another value.
+fn renew(entries: &mut [Entry], latest: Entry)
+    ensures { entries.new ≡ renewed entries.old latest.cell latest.value }
+{
+    for entry in entries.iter_mut() {
+        if entry.cell == latest.cell {
+            entry.value = latest.value;
+        }
+    }
+}
