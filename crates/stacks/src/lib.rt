@@ -22,6 +22,7 @@ pub struct Copied<B> {
 }
 
 /// Copies one cell to another through a buffer, which is then taken apart.
+#[tactic(auto, using(crate::proofs::Through::through_buffer))]
 pub fn copy_buffered<S: Store>(store: S, from: u16, to: u16) -> Copied<S>
     ensures answers { result.answer ≡ copy_answer (buffer_at (S.Store.at store) []) from to }
     ensures carries { CarriedTo S.Store (buffer_at (S.Store.at store) [] from) (S.Store.at store to) store to result.below }

@@ -1,7 +1,7 @@
 -- Halving between two places. Assumes nothing.
-use Rattle.std.proofs.Common.{◌≡◌, ℕ, zero, suc, ◌+◌, ◌-◌, ◌<◌, ◌≤◌, Bool, true, false, cond, ◌&&◌, eqb, ltb, List, [], ◌∷◌, length, get_or, Ok, Err, sym, refl, ap, ◌∙◌, inl, inr, arith}
+use Rattle.std.proofs.Common.{◌≡◌, ℕ, zero, suc, ◌+◌, ◌-◌, ◌<◌, ◌≤◌, Bool, true, false, cond, ◌&&◌, eqb, ltb, List, [], ◌∷◌, length, get_or, Ok, Err, sym, refl, inl, inr, arith}
 use mathlib.Core.Path.{fun_ext}
-use Rattle.std.proofs.lemmas.Bool.{and_parts, le-leb, eqb-true, eq-eqb, ne_eqb, cases_eq, cases_lt, lt-ltb, le-ltb}
+use Rattle.std.proofs.lemmas.Bool.{and_parts, eqb-true, eq-eqb, ne_eqb, cases_eq, cases_lt, lt-ltb, le-ltb}
 use Rattle.store.specs.Faults.{missing}
 use Rattle.store.specs.Sparse.{listed_at, middle, halved, sought, place_at, value_at, sparse_at}
 use Rattle.store.specs.Slices.{short, rising, paired, if_taken}
@@ -161,17 +161,13 @@ spot_lists cs vs c i r l s =
 pub sparse_lists : (cs vs : List ℕ) → Rising cs → length cs ≡ length vs → sparse_at cs vs ≡ listed_at cs vs
 sparse_lists cs vs r l = fun_ext (λ c. spot_lists cs vs c (sought cs c) r l (sought_splits cs c r))
 
--- slices that are taken list what the search finds
-taken_finds : (cs vs : List ℕ) (t : Bool) → paired cs vs ≡ t → if_taken t (sparse_at cs vs) ≡ if_taken t (listed_at cs vs)
-taken_finds cs vs false p = refl
-taken_finds cs vs true p =
+by_answer : (cs vs : List ℕ) (t : Bool) → paired cs vs ≡ t → if_taken t (sparse_at cs vs) ≡ if_taken t (listed_at cs vs)
+by_answer cs vs false p = refl
+by_answer cs vs true p =
     let q = and_parts (short cs && eqb (length cs) (length vs)) (rising cs) p in
     let r = and_parts (short cs) (eqb (length cs) (length vs)) q.0 in
     sparse_lists cs vs (rising_sound cs (sym q.1)) (eqb-true (length cs) (length vs) r.1)
 
--- with the lengths tested, the numbers are left
-pub lengths_fit : (cs vs : List ℕ) → length cs ≤ 16384 → length cs ≡ length vs → rising cs ≡ paired cs vs
-lengths_fit cs vs a b = rw (le-leb (length cs) 16384 a, eq-eqb (length cs) (length vs) b)
-
-pub taken_lists : (cs vs : List ℕ) (t : Bool) → t ≡ paired cs vs → if_taken t (sparse_at cs vs) ≡ if_taken (paired cs vs) (listed_at cs vs)
-taken_lists cs vs t e = taken_finds cs vs t (sym e) ∙ ap (λ b. if_taken b (listed_at cs vs)) e
+-- slices that are taken list what the search finds
+pub paired_finds : (cs vs : List ℕ) → if_taken (paired cs vs) (sparse_at cs vs) ≡ if_taken (paired cs vs) (listed_at cs vs)
+paired_finds cs vs = by_answer cs vs (paired cs vs) refl

@@ -1,26 +1,17 @@
 -- What a write leaves. Assumes nothing.
 use Rattle.std.proofs.Common.{◌≡◌, ℕ, Bool, true, false, cond, eqb, List, [], ◌∷◌, Ok, Err, Result, sym, refl, ap, ◌∙◌}
 use mathlib.Core.Path.{fun_ext}
-use Rattle.std.proofs.lemmas.Bool.{eqb-true, eq-eqb, ne_eqb}
+use Rattle.std.proofs.lemmas.Bool.{eqb-true}
 use Rattle.store.specs.declared.fault.Fault.{Fault}
 use Rattle.store.specs.Meaning.{Meaning, checked, rewritten, put}
 use Rattle.store.specs.Laws.{after_writes}
-
-pub put_same : (f : Meaning) (c w : ℕ) → put f c w c ≡ rewritten (f c) w
-put_same f c w = rw (eq-eqb c c refl)
-
-pub put_other : (f : Meaning) (c w k : ℕ) → (k ≡ c → ⊥) → put f c w k ≡ f k
-put_other f c w k n = rw (ne_eqb k c n)
-
-pub read_back : (f : Meaning) (c v w : ℕ) → f c ≡ Ok v → put f c w c ≡ Ok w
-read_back f c v w e = put_same f c w ∙ ap (λ r. rewritten r w) e
 
 same_check : (b : Bool) (r : Result ℕ Fault) (w : ℕ) → checked (cond b (rewritten r w) r) ≡ checked r
 same_check true (Ok v) w = refl
 same_check true (Err e) w = refl
 same_check false r w = refl
 
-pub cells_stay : (f : Meaning) (c w k : ℕ) → checked (put f c w k) ≡ checked (f k)
+cells_stay : (f : Meaning) (c w k : ℕ) → checked (put f c w k) ≡ checked (f k)
 cells_stay f c w k = same_check (eqb k c) (f k) w
 
 pub cells_never_change : (f : Meaning) (ws : List (ℕ × ℕ)) (k : ℕ) → checked (after_writes f ws k) ≡ checked (f k)

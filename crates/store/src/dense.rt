@@ -1,5 +1,5 @@
 ghost use Rattle.std.proofs.Common.{rules};
-ghost use Rattle.std.specs.Prelude.{◌≡◌, ℕ, ◌<◌, length, IfSome};
+ghost use Rattle.std.specs.Prelude.{◌≡◌};
 ghost use Rattle.store.specs.Dense.{dense_at};
 ghost use Rattle.store.specs.Seen.{dense_placed, dense_seen};
 ghost use Rattle.store.specs.Slices.{short, unless_taken, if_taken};

@@ -1,4 +1,4 @@
-ghost use Rattle.std.specs.Prelude.{◌≡◌, ℕ, ◌<◌, length, IfOk, ok_or};
+ghost use Rattle.std.specs.Prelude.{◌≡◌, ℕ, length, ok_or};
 ghost use Rattle.store.specs.Faults.{missing};
 ghost use Rattle.store.specs.Meaning.{checked};
 ghost use Rattle.store.specs.Seen.{slice_seen, SliceWrote};
@@ -24,8 +24,7 @@ impl<'a, L: Layout> SliceStore<'a, L> {
 
     /// The place of a cell's value.
     fn place(&self, cell: u16) -> Result<usize, Fault>
-        ensures is { result ≡ ok_or (L.place self.now.layout (length self.now.values.now) cell) (missing cell) }
-        ensures within { IfOk result (λ i. i < length self.now.values.now) }
+        ensures { result ≡ ok_or (L.place self.now.layout (length self.now.values.now) cell) (missing cell) }
     {
         self.layout
             .place(self.values.len(), cell)

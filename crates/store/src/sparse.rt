@@ -1,8 +1,8 @@
 ghost use Rattle.std.proofs.Common.{rules};
-ghost use Rattle.std.specs.Prelude.{◌≡◌, ℕ, ◌<◌, ◌≤◌, length, [], IfSome, MatchBool};
+ghost use Rattle.std.specs.Prelude.{◌≡◌, [], MatchBool};
 ghost use Rattle.store.specs.Seen.{listed_placed, sparse_seen};
 ghost use Rattle.store.specs.Slices.{rising, paired, unless_taken, if_taken};
-ghost use Rattle.store.specs.Sparse.{sought, place_of, sparse_at, listed_at};
+ghost use Rattle.store.specs.Sparse.{sought, sparse_at, listed_at};
 
 use super::Built;
 use super::build::{MAX_CELLS, refusal_unless};
@@ -26,6 +26,7 @@ fn rises(cells: &[u16]) -> bool
 }
 
 /// Whether the slices are taken; halving then finds just the cells that are listed.
+#[tactic(auto, using(crate::proofs::Halving::paired_finds))]
 fn fit(cells: &[u16], values: &[u32]) -> bool
     ensures is { result ≡ paired cells.now values.now }
     ensures finds { if_taken result (sparse_at cells.now values.now) ≡ if_taken (paired cells.now values.now) (listed_at cells.now values.now) }
@@ -36,6 +37,7 @@ fn fit(cells: &[u16], values: &[u32]) -> bool
 /// The place that a cell would have among rising ones, found by halving.
 // By hand: `binary_search` promises where a cell is and not in how many steps, and that fifteen halvings are enough is a
 // law about this very search (`FifteenHalvings`, over `sought`).
+#[tactic(auto, using(crate::proofs::Halving::halved_up, crate::proofs::Halving::halved_down, crate::proofs::Halving::halved_end))]
 fn seek(cells: &[u16], cell: u16) -> usize
     ensures { result ≡ sought cells.now cell }
 {

@@ -25,12 +25,7 @@ impl<S: Store> Window<S> {
     pub fn into_below(self) -> S
         ensures { result ≡ self.below }
     {
-        let Window {
-            below,
-            base: _,
-            len: _,
-        } = self;
-        below
+        self.below
     }
 
     /// The cell below that is shown as this cell.

@@ -4,8 +4,7 @@ use mathlib.Core.Path.{fun_ext}
 use Rattle.std.proofs.lemmas.Bool.{eq-eqb, ne_eqb, cases_eq, cases_lt, lt-ltb, le-ltb}
 use Rattle.store.specs.declared.fault.Fault.{Fault}
 use Rattle.store.specs.Faults.{raised}
-use Rattle.store.specs.Meaning.{Meaning, checked, rewritten, put}
-use Rattle.store.proofs.Writes.{cells_stay}
+use Rattle.store.specs.Meaning.{Meaning, rewritten, put}
 use Rattle.write_buffer.specs.declared.entries.Entry.{Entry}
 use Rattle.write_buffer.specs.Held.{entry, or_else, held_value, renewed, written_by, written, sent_by, sent}
 use Rattle.write_buffer.specs.Buffered.{laid, sunk}
@@ -17,10 +16,6 @@ rewritten_twice (Err e) v w = refl
 rewritten_put : (f : Meaning) (c v k w : ℕ) → rewritten (put f c v k) w ≡ rewritten (f k) w
 rewritten_put f c v k w =
     elim (cases_eq k c) [ inl q ↦ rw (eq-eqb k c q) (rewritten_twice (f k) v w) | inr n ↦ rw (ne_eqb k c n) ]
-
-pub laid_checked : (f : Meaning) (es : List Entry) (k : ℕ) → checked (laid f es k) ≡ checked (f k)
-laid_checked f [] k = refl
-laid_checked f (e ∷ es) k = laid_checked (put f e.cell e.value) es k ∙ cells_stay f e.cell e.value k
 
 laid_push : (f : Meaning) (es : List Entry) (c v : ℕ) → laid f (es ++ (entry c v ∷ [])) ≡ put (laid f es) c v
 laid_push f [] c v = refl

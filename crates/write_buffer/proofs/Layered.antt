@@ -2,20 +2,12 @@
 use Rattle.std.proofs.Common.{◌≡◌, ℕ, List, Some, None, Ok, Err, Option, Result, sym, refl, ap, ◌∙◌}
 use Rattle.store.specs.declared.fault.Fault.{Fault}
 use Rattle.store.specs.Faults.{passed_up, raised}
-use Rattle.store.specs.Meaning.{Meaning, checked, put}
+use Rattle.store.specs.Meaning.{Meaning, put}
 use Rattle.store.proofs.Writes.{put_fault}
 use Rattle.write_buffer.specs.declared.entries.Entry.{Entry}
 use Rattle.write_buffer.specs.Held.{held_value, written, sent}
 use Rattle.write_buffer.specs.Buffered.{laid, buffer_at, sunk, written_if, sent_if}
-use Rattle.write_buffer.proofs.Laid.{over, laid_checked, laid_reads, laid_written, raised_put}
-
-check_raised : (r : Result ℕ Fault) → raised (checked r) ≡ checked (raised r)
-check_raised (Ok x) = refl
-check_raised (Err e) = refl
-
--- the store below decides whether a cell is in the set
-pub check_below : (f : Meaning) (es : List Entry) (c : ℕ) → raised (checked (f c)) ≡ checked (buffer_at f es c)
-check_below f es c = ap raised (sym (laid_checked f es c)) ∙ check_raised (laid f es c)
+use Rattle.write_buffer.proofs.Laid.{over, laid_reads, laid_written, raised_put}
 
 written_sets : (f d : Meaning) (es js : List Entry) (c v : ℕ) → js ≡ written es c v → d ≡ sunk f (sent es c) → buffer_at d js ≡ put (buffer_at f es) c v
 written_sets f d es js c v e p =

@@ -1,4 +1,4 @@
-ghost use Rattle.std.specs.Prelude.{◌≡◌, ℕ, []};
+ghost use Rattle.std.specs.Prelude.{◌≡◌, []};
 ghost use Rattle.store.specs.Meaning.{checked, put};
 ghost use Rattle.write_buffer.specs.Buffered.{laid, buffer_at, sunk, sent_if};
 ghost use Rattle.write_buffer.specs.Seen.{held_by, buffer_seen, BufferWrote, AllSent};
@@ -49,14 +49,12 @@ impl<S: Store> WriteBuffer<S> {
     }
 
     /// The store below, once everything that was held back is sent to it.
-    pub fn into_below(self) -> S
+    pub fn into_below(mut self) -> S
         ensures sends { S.Store.at result ≡ laid (S.Store.at self.below) (held_by self) }
         ensures went { AllSent S.Store (held_by self) self.below result }
     {
-        let mut flushed = self;
-        flushed.flush();
-        let WriteBuffer { below, entries: _ } = flushed;
-        below
+        self.flush();
+        self.below
     }
 
     /// Holds a value back, and sends below what has to go for it.

@@ -91,6 +91,7 @@ fn newest(entries: &[Entry], cell: u16) -> Option<u32>
 }
 
 /// Gives the entries of a cell another value.
+#[tactic(auto, using(crate::proofs::Table::renewing_same, crate::proofs::Table::renewing_other))]
 fn renew(entries: &mut [Entry], latest: Entry)
     ensures { entries.new ≡ renewed entries.old latest.cell latest.value }
 {

@@ -1,5 +1,5 @@
-use Rattle.write_buffer.proofs.Bounds.{at_most_sixteen, ages_stay}
+use Rattle.write_buffer.proofs.Bounds.{at_most_sixteen}
 use Rattle.write_buffer.proofs.laws.buffers_are_bounded.Goals as goal
 
-pub returns : goal.returns
-returns c = record { sixteen = at_most_sixteen; ages = ages_stay }
+pub returns-clause-sixteen : goal.returns-clause-sixteen
+returns-clause-sixteen c = at_most_sixteen
