@@ -123,11 +123,10 @@ fn too_many_cells_of_a_dense_store(rt: HostRuntime) -> Result<(), Fail> {
 
 /// Every third cell from 0 on.
 fn every_third(rt: &HostRuntime, count: u16) -> Result<Vec<u16>, Fail> {
-    let mut cells = Vec::new(rt.alloc());
-    for i in 0..count.min(20_000) {
-        cells.push(3 * i)?;
-    }
-    Ok(cells)
+    Ok((0..u16::MAX)
+        .step_by(3)
+        .take(usize::from(count))
+        .collect(rt.alloc())?)
 }
 
 #[test]

@@ -63,9 +63,7 @@ fn a_cell_twice(rt: HostRuntime) -> Result<(), Fail> {
 fn long_telegram(rt: &HostRuntime, count: u8, tail: &[u8]) -> Result<Vec<u8>, Fail> {
     let mut bytes = Vec::new(rt.alloc());
     bytes.push(count)?;
-    for _ in 0..63 {
-        bytes.push(0)?;
-    }
+    bytes.resize(64, 0)?;
     bytes.extend_from_slice(tail)?;
     Ok(bytes)
 }
