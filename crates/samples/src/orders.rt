@@ -27,21 +27,15 @@ fn a_list_takes_no_cell_twice(rt: HostRuntime) {
 
 #[test]
 fn lists_from_slices(rt: HostRuntime) -> Result<(), Fail> {
-    match Cells::try_from([9, 4, 7].as_slice()) {
-        Ok(cells) => assert!(rt; cells.as_slice() == [9, 4, 7].as_slice()),
-        Err(_) => return Err(Fail::new("refused")),
-    }
-    match Cells::try_from([9, 4, 9].as_slice()) {
-        Ok(_) => return Err(Fail::new("taken")),
-        Err(refusal) => assert_eq!(rt; refusal, ListRefusal::Repeated),
-    }
-    match Cells::try_from([1, 2, 3, 4, 5, 6, 7, 8, 9].as_slice()) {
-        Ok(_) => Err(Fail::new("taken")),
-        Err(refusal) => {
-            assert_eq!(rt; refusal, ListRefusal::TooMany);
-            Ok(())
-        },
-    }
+    let Ok(cells) = Cells::try_from([9, 4, 7].as_slice()) else {
+        return Err(Fail::new("refused"));
+    };
+    assert!(rt; cells.as_slice() == [9, 4, 7].as_slice());
+    let repeated = Cells::try_from([9, 4, 9].as_slice());
+    assert_eq!(rt; repeated.err(), Some(ListRefusal::Repeated));
+    let too_many = Cells::try_from([1, 2, 3, 4, 5, 6, 7, 8, 9].as_slice());
+    assert_eq!(rt; too_many.err(), Some(ListRefusal::TooMany));
+    Ok(())
 }
 
 #[test]

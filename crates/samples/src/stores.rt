@@ -1,4 +1,4 @@
-use stacks::{copy_in_dense, copy_in_sparse};
+use stacks::WindowedCopy;
 use std::process::Abort;
 use std::test::Fail;
 use store::{Cause, DenseStore, Fault, Refusal, SparseStore, Store, Window, copy};
@@ -335,10 +335,16 @@ fn copies_in_any_store(rt: HostRuntime) {
 #[test]
 fn copies_through_dense_stacks(rt: HostRuntime) {
     let mut values = [1, 2, 3, 4];
-    let inside = copy_in_dense(&mut values, 1, 2, 0, 1);
-    assert_eq!(rt; inside.answer, Ok(()));
-    holds(&rt, inside.below, &[1, 2, 2, 4]);
-    let past = copy_in_dense(&mut values, 1, 2, 0, 2);
+    let inside = WindowedCopy {
+        base: 1,
+        len: 2,
+        from: 0,
+        to: 1,
+    };
+    let copied = inside.in_dense(&mut values);
+    assert_eq!(rt; copied.answer, Ok(()));
+    holds(&rt, copied.below, &[1, 2, 2, 4]);
+    let past = WindowedCopy { to: 2, ..inside }.in_dense(&mut values);
     assert_eq!(rt; past.answer, Err(outside(2, 1)));
     holds(&rt, past.below, &[1, 2, 2, 4]);
 }
@@ -346,10 +352,16 @@ fn copies_through_dense_stacks(rt: HostRuntime) {
 #[test]
 fn copies_through_sparse_stacks(rt: HostRuntime) {
     let mut values = [1, 2, 3];
-    let listed = copy_in_sparse(&[10, 20, 30], &mut values, 10, 50, 20, 0);
-    assert_eq!(rt; listed.answer, Ok(()));
-    holds(&rt, listed.below, &[3, 2, 3]);
-    let other = copy_in_sparse(&[10, 20, 30], &mut values, 10, 50, 20, 1);
+    let listed = WindowedCopy {
+        base: 10,
+        len: 50,
+        from: 20,
+        to: 0,
+    };
+    let copied = listed.in_sparse(&[10, 20, 30], &mut values);
+    assert_eq!(rt; copied.answer, Ok(()));
+    holds(&rt, copied.below, &[3, 2, 3]);
+    let other = WindowedCopy { to: 1, ..listed }.in_sparse(&[10, 20, 30], &mut values);
     assert_eq!(rt; other.answer, Err(missing(11, 2)));
     holds(&rt, other.below, &[3, 2, 3]);
 }

@@ -8,16 +8,14 @@ fn refuses(rt: &impl Abort, bytes: &[u8], number: u8, place: usize) -> Result<()
     let mut mark = Order::plain();
     mark.argument = 77;
     let mut orders = [mark; 64];
-    match decode(bytes, &mut orders) {
-        Ok(_) => Err(Fail::new("accepted")),
-        Err(refused) => {
-            assert_eq!(rt; u8::from(refused.refusal), number);
-            assert_eq!(rt; refused.place, place);
-            assert_eq!(rt; orders[0].argument, 77);
-            assert_eq!(rt; orders[63].argument, 77);
-            Ok(())
-        }
-    }
+    let Err(refused) = decode(bytes, &mut orders) else {
+        return Err(Fail::new("accepted"));
+    };
+    assert_eq!(rt; u8::from(refused.refusal), number);
+    assert_eq!(rt; refused.place, place);
+    assert_eq!(rt; orders[0].argument, 77);
+    assert_eq!(rt; orders[63].argument, 77);
+    Ok(())
 }
 
 #[test]
@@ -123,19 +121,17 @@ fn a_refused_record_puts_the_reader_back(rt: HostRuntime) -> Result<(), Fail> {
     assert!(rt; reader.next_record().is_ok());
     assert_eq!(rt; reader.place(), 4);
     for _ in 0..2 {
-        match reader.next_record() {
-            Ok(_) => return Err(Fail::new("accepted")),
-            Err(refused) => assert_eq!(rt; refused.refusal, Refusal::RepeatedCell),
-        }
+        let Err(refused) = reader.next_record() else {
+            return Err(Fail::new("accepted"));
+        };
+        assert_eq!(rt; refused.refusal, Refusal::RepeatedCell);
         assert_eq!(rt; reader.place(), 4);
     }
-    match reader.end() {
-        Ok(()) => Err(Fail::new("bytes are left")),
-        Err(refused) => {
-            assert_eq!(rt; refused.place, 4);
-            Ok(())
-        },
-    }
+    let Err(refused) = reader.end() else {
+        return Err(Fail::new("bytes are left"));
+    };
+    assert_eq!(rt; refused.place, 4);
+    Ok(())
 }
 
 #[test]

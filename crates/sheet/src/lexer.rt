@@ -24,10 +24,7 @@ impl<'a> Words<'a> {
     pub fn end(mut self) -> Option<()>
         ensures { result ≡ end_of (plain_words self.entry.rest.now) }
     {
-        match self.next() {
-            None => Some(()),
-            Some(_) => None,
-        }
+        self.next().is_none().then_some(())
     }
 }
 

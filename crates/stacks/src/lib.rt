@@ -35,64 +35,57 @@ pub fn copy_buffered<S: Store>(store: S, from: u16, to: u16) -> Copied<S>
     }
 }
 
-/// Copies one cell to another through a buffer over a window, which are then taken apart.
-pub fn copy_windowed<S: Store>(store: S, base: u16, len: u16, from: u16, to: u16) -> Copied<S>
-    ensures answers { result.answer ≡ copy_answer (stack_over (S.Store.at store) base len) from to }
-    ensures carries { CarriedThrough S.Store (stack_over (S.Store.at store) base len from) (window_at (S.Store.at store) base len to) store (placed base len to) result.below }
-{
-    let Copied { below, answer } = copy_buffered(Window::new(store, base, len), from, to);
-    Copied {
-        below: below.into_below(),
-        answer,
+/// One cell copied to another, both as a window shows them.
+#[derive(Clone, Copy, Debug, PartialEq, Eq)]
+pub struct WindowedCopy {
+    pub base: u16,
+    pub len: u16,
+    pub from: u16,
+    pub to: u16,
+}
+
+impl WindowedCopy {
+    /// Copies through a buffer over a window, which are then taken apart.
+    pub fn over<S: Store>(self, store: S) -> Copied<S>
+        ensures answers { result.answer ≡ copy_answer (stack_over (S.Store.at store) self.base self.len) self.from self.to }
+        ensures carries { CarriedThrough S.Store (stack_over (S.Store.at store) self.base self.len self.from) (window_at (S.Store.at store) self.base self.len self.to) store (placed self.base self.len self.to) result.below }
+    {
+        let window = Window::new(store, self.base, self.len);
+        let Copied { below, answer } = copy_buffered(window, self.from, self.to);
+        Copied {
+            below: below.into_below(),
+            answer,
+        }
     }
-}
 
-/// Copies one cell to another through a buffer over a window over a dense store, and gives the lent values back.
-pub fn copy_in_dense<'a>(
-    values: &'a mut [u32],
-    base: u16,
-    len: u16,
-    from: u16,
-    to: u16,
-) -> Copied<&'a mut [u32]>
-    ensures answers { result.answer ≡ copy_answer (stack_over (dense_over values.old) base len) from to }
-    ensures memory { result.below.now ≡ memory_after (stack_over (dense_over values.old) base len from) (window_at (dense_over values.old) base len to) (placed base len to) (dense_place (short values.old) (length values.old)) values.old }
-    ensures lent { result.below.ghost_name ≡ values.entry.ghost_name }
-{
-    copy_in(DenseStore::new(values).store, base, len, from, to)
-}
+    /// Copies through a buffer over a window over a dense store, and gives the lent values back.
+    pub fn in_dense<'a>(self, values: &'a mut [u32]) -> Copied<&'a mut [u32]>
+        ensures answers { result.answer ≡ copy_answer (stack_over (dense_over values.old) self.base self.len) self.from self.to }
+        ensures memory { result.below.now ≡ memory_after (stack_over (dense_over values.old) self.base self.len self.from) (window_at (dense_over values.old) self.base self.len self.to) (placed self.base self.len self.to) (dense_place (short values.old) (length values.old)) values.old }
+        ensures lent { result.below.ghost_name ≡ values.entry.ghost_name }
+    {
+        self.in_slice(DenseStore::new(values).store)
+    }
 
-/// Copies one cell to another through a buffer over a window over a sparse store, and gives the lent values back.
-pub fn copy_in_sparse<'a>(
-    cells: &[u16],
-    values: &'a mut [u32],
-    base: u16,
-    len: u16,
-    from: u16,
-    to: u16,
-) -> Copied<&'a mut [u32]>
-    ensures answers { result.answer ≡ copy_answer (stack_over (sparse_over cells.now values.old) base len) from to }
-    ensures memory { result.below.now ≡ memory_after (stack_over (sparse_over cells.now values.old) base len from) (window_at (sparse_over cells.now values.old) base len to) (placed base len to) (sparse_place (paired cells.now values.old) cells.now (length values.old)) values.old }
-    ensures lent { result.below.ghost_name ≡ values.entry.ghost_name }
-{
-    copy_in(SparseStore::new(cells, values).store, base, len, from, to)
-}
+    /// Copies through a buffer over a window over a sparse store, and gives the lent values back.
+    pub fn in_sparse<'a>(self, cells: &[u16], values: &'a mut [u32]) -> Copied<&'a mut [u32]>
+        ensures answers { result.answer ≡ copy_answer (stack_over (sparse_over cells.now values.old) self.base self.len) self.from self.to }
+        ensures memory { result.below.now ≡ memory_after (stack_over (sparse_over cells.now values.old) self.base self.len self.from) (window_at (sparse_over cells.now values.old) self.base self.len self.to) (placed self.base self.len self.to) (sparse_place (paired cells.now values.old) cells.now (length values.old)) values.old }
+        ensures lent { result.below.ghost_name ≡ values.entry.ghost_name }
+    {
+        self.in_slice(SparseStore::new(cells, values).store)
+    }
 
-/// Copies one cell to another through a buffer over a window over a store in lent memory, and gives the memory back.
-fn copy_in<'a, L: Layout>(
-    store: SliceStore<'a, L>,
-    base: u16,
-    len: u16,
-    from: u16,
-    to: u16,
-) -> Copied<&'a mut [u32]>
-    ensures answers { result.answer ≡ copy_answer (stack_over (slice_seen L.Layout store.entry) base len) from to }
-    ensures memory { result.below.now ≡ memory_after (stack_over (slice_seen L.Layout store.entry) base len from) (window_at (slice_seen L.Layout store.entry) base len to) (placed base len to) (L.place store.entry.layout (length store.entry.values.now)) store.entry.values.now }
-    ensures lent { result.below.ghost_name ≡ store.entry.values.ghost_name }
-{
-    let Copied { below, answer } = copy_windowed(store, base, len, from, to);
-    Copied {
-        below: below.into_values(),
-        answer,
+    /// Copies through a buffer over a window over a store in lent memory, and gives the memory back.
+    fn in_slice<'a, L: Layout>(self, store: SliceStore<'a, L>) -> Copied<&'a mut [u32]>
+        ensures answers { result.answer ≡ copy_answer (stack_over (slice_seen L.Layout store.entry) self.base self.len) self.from self.to }
+        ensures memory { result.below.now ≡ memory_after (stack_over (slice_seen L.Layout store.entry) self.base self.len self.from) (window_at (slice_seen L.Layout store.entry) self.base self.len self.to) (placed self.base self.len self.to) (L.place store.entry.layout (length store.entry.values.now)) store.entry.values.now }
+        ensures lent { result.below.ghost_name ≡ store.entry.values.ghost_name }
+    {
+        let Copied { below, answer } = self.over(store);
+        Copied {
+            below: below.into_values(),
+            answer,
+        }
     }
 }
