@@ -6,7 +6,7 @@ use Rattle.std.proofs.lemmas.Iterator.Adapters.{YieldsList-from_rev_slice}
 use Rattle.std.proofs.lemmas.Iterator.Search.{find_from_yields_List}
 use Rattle.write_buffer.specs.declared.entries.Entry.{Entry}
 use Rattle.write_buffer.proofs.Table.{held_reversed}
-use Rattle.write_buffer.proofs.entries.calls.newest.Goals as goal
+use Rattle.write_buffer.proofs.entries.newest.Goals as goal
 
 pub returns : goal.returns
 returns c =
