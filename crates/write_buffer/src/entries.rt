@@ -11,8 +11,8 @@ pub struct Entry {
 /// Up to sixteen written values that are held back, the one held longest first.
 ///
 /// Every content has a meaning: a count above sixteen is read as sixteen, and of two entries of a cell the younger one counts.
-// A fixed array with a count: a buffer takes no memory but its own. The count has no bound in the type, as a type argument
-// that holds a `&mut` may not hold a ghost field, and a store under a layer does.
+// A fixed array with a count: a buffer takes no memory but its own. Its type does not bound the count, since no proof covers
+// a type argument that holds a ghost field beside a `&mut`, as a buffer over lent memory under another layer would.
 #[derive(Drop)]
 pub struct Entries {
     slots: [Entry; 16],
