@@ -20,6 +20,7 @@ impl From<Refusal> for u8 {
 }
 
 /// A store as it was built; if the slices were refused, the refusal, beside a store without cells.
+// No Result: a refused store is there too, and gives the lent memory back.
 #[derive(Drop)]
 pub struct Built<S> {
     pub store: S,

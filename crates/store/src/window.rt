@@ -50,6 +50,7 @@ impl<S: Store> Store for Window<S> {
 
     ghost wrote = { WindowWrote S.Store };
 
+    // Each call in two lines: what differs is the call below, which a function told of it would hide.
     fn check(&self, cell: u16) -> Result<(), Fault> {
         let place = self.place(cell)?;
         pass_up(self.below.check(place))

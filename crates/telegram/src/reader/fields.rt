@@ -38,6 +38,7 @@ impl<'a> Reader<'a> {
         Ok(byte)
     }
 
+    // A line for each type: what its bytes are worth differs.
     fn cell(&mut self) -> Result<u16, Refused>
         ensures { Reads (λ c. c) self.old result self.new cell_at }
     {
@@ -118,6 +119,7 @@ impl<'a> Reader<'a> {
         for _ in 0..count {
             let at = self.place;
             let cell = self.cell()?;
+            // No `?`: only here is the place of the entry known.
             if let Err(refusal) = seen.push(cell) {
                 return Err(Refusal::from(refusal).at(at));
             }
