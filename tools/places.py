@@ -106,7 +106,8 @@ def repeated():
             for m in re.finditer(r'\bfn (\w+)[^(]*\(([^)]*)\)', text):
                 names = re.findall(r'(?:^|,)\s*(?:mut )?(\w+: [^,]+)', m.group(2))
                 for pair in itertools.combinations(sorted(n.strip() for n in names), 2):
-                    pairs.setdefault(pair, []).append(m.group(1))
+                    # The methods that an interface and its impls share count once.
+                    pairs.setdefault(pair, set()).add(m.group(1))
         for fact, where in sorted(clauses.items()):
             if len(where) >= 3:
                 yield '%s: %s in %d functions' % (crate, fact, len(where))

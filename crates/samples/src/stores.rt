@@ -123,10 +123,12 @@ fn too_many_cells_of_a_dense_store(rt: HostRuntime) -> Result<(), Fail> {
 
 /// Every third cell from 0 on.
 fn every_third(rt: &HostRuntime, count: u16) -> Result<Vec<u16>, Fail> {
-    Ok((0..u16::MAX)
-        .step_by(3)
-        .take(usize::from(count))
-        .collect(rt.alloc())?)
+    Ok(
+        (0..u16::MAX)
+            .step_by(3)
+            .take(usize::from(count))
+            .collect(rt.alloc())?,
+    )
 }
 
 #[test]

@@ -62,6 +62,8 @@ pub fn before_comment(text: &[u8]) -> &[u8]
     &text[..comment_start(text)]
 }
 
+// One chain for each count: a function that is told the test would be no shorter, and its contract longer.
+
 /// How many bytes stand before the first `#`.
 fn comment_start(text: &[u8]) -> usize
     ensures value { result ≡ position_or_len is_comment text.now }

@@ -76,6 +76,7 @@ pub fn read_line(heap: Global, text: &[u8]) -> Result<Line, LineError>
 }
 
 /// Reads what the words of a line say: its first, and those that come after it.
+// The allocator stands apart from the words, as in the library: only what allocates is given it.
 #[tactic(auto, using(crate::proofs::Verbs::six_letters))]
 fn read_sentence(heap: Global, verb: &[u8], words: Words) -> Result<Line, LineError>
     ensures { Tells said_by result (sentence_of (verb.now ∷ plain_words words.entry.rest.now)) }

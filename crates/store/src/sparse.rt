@@ -10,6 +10,7 @@ use super::layout::Layout;
 use super::slices::SliceStore;
 
 /// The value of each cell stands at the place where a list of rising numbers has the cell.
+// Apart from the values: both slices are lent, as the caller has them.
 #[derive(Drop)]
 pub struct Listed<'a> {
     cells: &'a [u16],
