@@ -16,7 +16,6 @@ fn next_order(reader: &mut Reader) -> Result<Order, Refused>
     Order::try_from(record).map_err(|refusal| refusal.at(place))
 }
 
-/// Decodes a whole telegram into the first places of the table, and answers how many orders it has.
 /// Decodes as many orders as there are places for.
 fn next_orders(reader: &mut Reader, places: &mut [Order]) -> Result<(), Refused>
     ensures same { reader.new.bytes.now ≡ reader.old.bytes.now }
@@ -28,8 +27,22 @@ fn next_orders(reader: &mut Reader, places: &mut [Order]) -> Result<(), Refused>
     Ok(())
 }
 
-/// Decodes a whole telegram into the first places of the table, and answers how many orders it has.
+/// Decodes a whole telegram into the first places of the table, which a refused one may leave half filled.
 #[tactic(auto, using(crate::proofs::Orders::orders_in_turn))]
+fn fill(bytes: &[u8], table: &mut [Order; 64]) -> Result<usize, Refused>
+    ensures few { IfOk result (λ n. n ≤ 64) }
+    ensures answer { result ≡ counted (orders_of bytes.now) }
+    ensures table { IfOk result (λ _. map stock_order table.new ≡ tabled (orders_of bytes.now) (map stock_order table.old)) }
+    ensures kept { IfOk result (λ n. drop n table.new ≡ drop n table.old) }
+{
+    let mut reader = Reader::new(bytes);
+    let count = usize::from(reader.count()?);
+    next_orders(&mut reader, &mut table[..count])?;
+    reader.end()?;
+    Ok(count)
+}
+
+/// Decodes a whole telegram into the first places of the table, and answers how many orders it has.
 pub fn decode(bytes: &[u8], orders: &mut [Order; 64]) -> Result<usize, Refused>
     ensures few { IfOk result (λ n. n ≤ 64) }
     ensures answer { result ≡ counted (orders_of bytes.now) }
@@ -37,10 +50,7 @@ pub fn decode(bytes: &[u8], orders: &mut [Order; 64]) -> Result<usize, Refused>
     ensures kept { drop (filled result) orders.new ≡ drop (filled result) orders.old }
 {
     let mut table = *orders;
-    let mut reader = Reader::new(bytes);
-    let count = usize::from(reader.count()?);
-    next_orders(&mut reader, &mut table[..count])?;
-    reader.end()?;
+    let count = fill(bytes, &mut table)?;
     *orders = table;
     Ok(count)
 }

@@ -109,6 +109,7 @@ impl<'a> Reader<'a> {
     }
 
     /// The entries of a list. A repeated cell is refused as soon as both its bytes have come.
+    // The readers of lists say of each that it is a part of the telegram: a list does not hold the telegram itself.
     fn entries(&mut self, count: u8) -> Result<CellList<'a>, Refused>
         requires { count ≤ 8 }
         ensures part { IfOk result (PartOf self.old.bytes.now) }
