@@ -11,7 +11,7 @@ use Rattle.telegram.specs.Laws.{SoundOrder}
 use Rattle.telegram.specs.declared.refusal.Refused.{Refused}
 use Rattle.telegram.specs.Records.{held_order, order_in, seen_by}
 use Rattle.telegram.specs.Whole.{order_at, orders_at, orders_of}
-use Rattle.telegram.proofs.Sound.{good_record, good_got}
+use Rattle.telegram.proofs.Sound.{got_record}
 
 -- a sound record's order is itself
 pub order_sound : (d : DecodedOrder) → SoundOrder d → order_in d ≡ Ok (order_of d)
@@ -22,7 +22,7 @@ order_sound d s =
     rw (low, reads, writes)
 
 sound_at : (t : List ℕ) (p q : ℕ) (d : DecodedOrder) → p ≤ length t → got d q ≡ record_at t p → SoundOrder d
-sound_at t p q d l e = (good_got t p p 1 SoundOrder (λ u. record_at u p) (record_at t p) d q (good_record t p l) (sym e)).2
+sound_at t p q d l e = (got_record t p q d l (sym e)).2
 
 order_read : (t : List ℕ) (p q : ℕ) (d : DecodedOrder) (o : StockOrder) → p ≤ length t → got d q ≡ record_at t p → Ok o ≡ order_in d → got o q ≡ order_at t p
 order_read t p q d o l e h =

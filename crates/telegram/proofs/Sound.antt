@@ -180,6 +180,11 @@ good_got t a p n P f r v q g e = rw e at g
 pub good_refused : {V : Type 0} (t : List ℕ) (a p n : ℕ) (P : V → Type 0) (f : List ℕ → Read V) (r : Read V) (e : Refusal) (z : ℕ) → Good t a p n P f r → r ≡ refused e z → Placed t a e z
 good_refused t a p n P f r e z g h = rw h at g
 
+-- what holds of an accepted record
+pub got_record : (t : List ℕ) (p q : ℕ) (d : DecodedOrder) → p ≤ length t → record_at t p ≡ got d q
+    → (p + 1 ≤ q) × (q ≤ length t) × SoundOrder d × ((u : List ℕ) → Agree t u p q → q ≤ length u → record_at u p ≡ got d q)
+got_record t p q d l e = good_got t p p 1 SoundOrder (λ u. record_at u p) (record_at t p) d q (good_record t p l) e
+
 -- what holds of a whole telegram
 abbrev Whole : List ℕ → Read (List DecodedOrder) → Type 0
 Whole t (got ds q) = (length ds ≤ 64) × AllByRecursion SoundOrder ds × (q ≡ length t)

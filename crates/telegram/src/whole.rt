@@ -1,6 +1,6 @@
 ghost use Rattle.std.specs.Prelude.{◌≡◌, ◌≤◌, map, drop, length, IfOk};
 ghost use Rattle.order.specs.Orders.{stock_order};
-ghost use Rattle.telegram.specs.Records.{seen_by};
+ghost use Rattle.telegram.specs.Readers.{Reads};
 ghost use Rattle.telegram.specs.Whole.{order_at, orders_at, orders_of, counted, tabled, filled};
 
 use super::reader::Reader;
@@ -8,8 +8,7 @@ use super::refusal::Refused;
 use order::Order;
 
 fn next_order(reader: &mut Reader) -> Result<Order, Refused>
-    ensures same { reader.new.bytes.now ≡ reader.old.bytes.now }
-    ensures value { seen_by stock_order result reader.new.place ≡ order_at reader.old.bytes.now reader.old.place }
+    ensures { Reads stock_order reader.old result reader.new order_at }
 {
     let place = reader.place();
     let record = reader.next_record()?;
@@ -18,8 +17,7 @@ fn next_order(reader: &mut Reader) -> Result<Order, Refused>
 
 /// Decodes as many orders as there are places for.
 fn next_orders(reader: &mut Reader, places: &mut [Order]) -> Result<(), Refused>
-    ensures same { reader.new.bytes.now ≡ reader.old.bytes.now }
-    ensures value { seen_by (λ _. map stock_order places.new) result reader.new.place ≡ orders_at (length places.old) reader.old.bytes.now reader.old.place }
+    ensures { Reads (λ _. map stock_order places.new) reader.old result reader.new (orders_at (length places.old)) }
 {
     for place in places.iter_mut() {
         *place = next_order(reader)?;

@@ -3,7 +3,7 @@ ghost use Rattle.std.specs.Prelude.{◌≡◌, ◌<◌, ◌≤◌, IfOk, IsTrue,
 ghost use Rattle.std.specs.Fn.{FnOnceReturnsAtMut};
 ghost use Rattle.telegram.specs.Decode.{bytes_at, byte_at, cell_at, word_at, byte_up_to, stands as stands_in, map_at, class_at, entry_list, list_at, field, list_field, writes_at, record_at};
 ghost use Rattle.telegram.specs.Records.{decoded, decoded_list, PartOf, PartsOf};
-ghost use Rattle.telegram.specs.Readers.{Reads};
+ghost use Rattle.telegram.specs.Readers.{Reads, ReadsList};
 
 use super::super::list::CellList;
 use super::super::record::Record;
@@ -109,11 +109,9 @@ impl<'a> Reader<'a> {
     }
 
     /// The entries of a list. A repeated cell is refused as soon as both its bytes have come.
-    // The readers of lists say of each that it is a part of the telegram: a list does not hold the telegram itself.
     fn entries(&mut self, count: u8) -> Result<CellList<'a>, Refused>
         requires { count ≤ 8 }
-        ensures part { IfOk result (PartOf self.old.bytes.now) }
-        ensures value { Reads decoded_list self.old result self.new (entry_list count) }
+        ensures { ReadsList self.old result self.new (entry_list count) }
     {
         let from = self.place;
         let mut seen = Cells::new();
@@ -132,8 +130,7 @@ impl<'a> Reader<'a> {
     }
 
     fn list(&mut self) -> Result<CellList<'a>, Refused>
-        ensures part { IfOk result (PartOf self.old.bytes.now) }
-        ensures value { Reads decoded_list self.old result self.new list_at }
+        ensures { ReadsList self.old result self.new list_at }
     {
         let at = self.place;
         let count = self.byte()?;
@@ -146,8 +143,7 @@ impl<'a> Reader<'a> {
     /// The list of a bit; without it the list is empty.
     fn list_field(&mut self, map: u8, bit: u8) -> Result<CellList<'a>, Refused>
         requires { bit < 8 }
-        ensures part { IfOk result (PartOf self.old.bytes.now) }
-        ensures value { Reads decoded_list self.old result self.new (λ t. list_field t map bit) }
+        ensures { ReadsList self.old result self.new (λ t. list_field t map bit) }
     {
         let empty = CellList {
             entries: &[],
@@ -158,8 +154,7 @@ impl<'a> Reader<'a> {
 
     fn writes_field(&mut self, map: u8, reads: CellList<'a>) -> Result<CellList<'a>, Refused>
         requires { PartOf self.old.bytes.now reads }
-        ensures part { IfOk result (PartOf self.old.bytes.now) }
-        ensures value { Reads decoded_list self.old result self.new (λ t. writes_at t map (decoded_list reads.entry)) }
+        ensures { ReadsList self.old result self.new (λ t. writes_at t map (decoded_list reads.entry)) }
     {
         if has_bit(map, 5) {
             Ok(reads)

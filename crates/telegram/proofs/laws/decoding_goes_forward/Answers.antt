@@ -1,8 +1,6 @@
 use Rattle.std.proofs.Common.{arith}
-use Rattle.telegram.specs.Decode.{record_at}
-use Rattle.telegram.specs.Laws.{SoundOrder}
-use Rattle.telegram.proofs.Sound.{good_record, good_got}
+use Rattle.telegram.proofs.Sound.{got_record}
 use Rattle.telegram.proofs.laws.decoding_goes_forward.Goals as goal
 
 pub returns : goal.returns
-returns c t p q d l e = let g = good_got t p p 1 SoundOrder (λ u. record_at u p) (record_at t p) d q (good_record t p l) e in (omega (arith, g.0), g.1)
+returns c t p q d l e = let g = got_record t p q d l e in (omega (arith, g.0), g.1)

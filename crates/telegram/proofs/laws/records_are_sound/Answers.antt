@@ -1,7 +1,5 @@
-use Rattle.telegram.specs.Decode.{record_at}
-use Rattle.telegram.specs.Laws.{SoundOrder}
-use Rattle.telegram.proofs.Sound.{good_record, good_got}
+use Rattle.telegram.proofs.Sound.{got_record}
 use Rattle.telegram.proofs.laws.records_are_sound.Goals as goal
 
 pub returns : goal.returns
-returns c t p q d l e = (good_got t p p 1 SoundOrder (λ u. record_at u p) (record_at t p) d q (good_record t p l) e).2
+returns c t p q d l e = (got_record t p q d l e).2

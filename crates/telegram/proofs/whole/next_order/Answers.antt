@@ -2,7 +2,7 @@ use Rattle.telegram.specs.Records.{decoded}
 use Rattle.telegram.proofs.Orders.{order_taken}
 use Rattle.telegram.proofs.whole.next_order.Goals as goal
 
-pub returns-clause-value : goal.returns-clause-value
-returns-clause-value c =
+pub returns : goal.returns
+returns c =
     let r = c.args.reader.now in
-    order_taken r.bytes.now r.place c.next_record.new.self.place (decoded c.in_ok-record.record) c.try_from.result c.map_err.result _ r.inside c.in_ok-record.ensures.value c.try_from.ensures c.map_err.ensures.cases
+    (c.next_record.ensures.same, order_taken r.bytes.now r.place c.next_record.new.self.place (decoded c.in_ok-record.record) c.try_from.result c.map_err.result _ r.inside c.in_ok-record.ensures.value c.try_from.ensures c.map_err.ensures.cases)
