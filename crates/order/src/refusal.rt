@@ -9,6 +9,7 @@ pub enum ListRefusal {
 }
 
 /// The number of the refusal.
+// By a match, so that an edit of one number is refused by the check and not by the compiler.
 impl From<ListRefusal> for u8 {
     ghost from_gives = { λ r n. n ≡ number_of r };
 

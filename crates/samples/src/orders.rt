@@ -5,6 +5,7 @@ use telegram::{CellList, Record, Refusal};
 #[test]
 fn a_list_takes_eight_different_cells(rt: HostRuntime) {
     let mut cells = Cells::new();
+    // Over the cells themselves, not over places.
     for cell in 0..8 {
         assert_eq!(rt; cells.push(cell), Ok(()));
     }

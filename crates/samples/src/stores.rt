@@ -272,6 +272,7 @@ fn buffers_hold_back(rt: HostRuntime) {
 
 /// Writes to the cells 0 to 15, each with its number and 100.
 fn write_sixteen<S: Store>(rt: &impl Abort, store: &mut S) {
+    // Over the cells themselves, not over places.
     for cell in 0..16 {
         assert_eq!(rt; store.write(cell, 100 + cell as u32), Ok(()));
     }

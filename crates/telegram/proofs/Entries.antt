@@ -1,7 +1,10 @@
 -- Facts on the entries of a list, read one by one.
-use Rattle.std.proofs.Common.{◌≡◌, ℕ, suc, ◌+◌, ◌-◌, ◌*◌, ◌%◌, ◌<◌, ◌≤◌, Bool, true, false, cond, leb, List, [], ◌∷◌, ◌++◌, length, get_or, take, drop, sym, refl, ap, ◌∙◌, arith, get_or-drop, leb-true}
+use Rattle.std.proofs.Common.{◌≡◌, ℕ, suc, ◌+◌, ◌-◌, ◌*◌, ◌%◌, ◌<◌, ◌≤◌, Bool, true, false, cond, leb, Ok, Err, Result, MatchResult, IsErrAnd, List, [], ◌∷◌, ◌++◌, length, get_or, take, drop, sym, refl, ap, ◌∙◌, arith, get_or-drop, leb-true}
 use Rattle.std.proofs.lemmas.List.{take_more, append_assoc, length-take-le, length-drop, length_push}
 use Rattle.order.specs.Cells.{has}
+use Rattle.order.specs.declared.refusal.ListRefusal.{ListRefusal}
+use Rattle.telegram.specs.Refusals.{from_list}
+use Rattle.telegram.specs.declared.refusal.Refused.{Refused}
 use Rattle.telegram.specs.declared.refusal.Refusal.{Refusal}
 use Rattle.telegram.specs.declared.refusal.Refusal.TheVariants.{EndsEarly, RepeatedCell}
 use Rattle.telegram.specs.Decode.{Read, got, refused, next, within, cell_at, cells_of, entries_at}
@@ -43,6 +46,16 @@ part_more t from k p q c before after e g b a =
     let v : get_or l i 0 * 256 + get_or l (i + 1) 0 ≡ c = rw (at0, at1) (sym w.2) in
     let s : q - from ≡ i + 2 = omega (arith, w.1) in
     a ∙ (ap (λ (x : List ℕ). x ++ (c ∷ [])) b ∙ (ap (λ n. cells_of (take i l) ++ (n ∷ [])) (sym v) ∙ (sym m ∙ ap (λ n. cells_of (take n l)) (sym s))))
+
+-- a refusal of the list, told beside its place
+pub refused_beside : (x : Result (Unit {0}) ListRefusal) (y : Result (Unit {0}) Refused) (e : Refused) (at : ℕ) (Told : ListRefusal → Refused → Type 0)
+    → MatchResult x (λ u. y ≡ Ok u) (λ r. IsErrAnd y (Told r)) → y ≡ Err e → ((r : ListRefusal) (z : Refused) → Told r z → (z.refusal ≡ from_list r) × (z.place ≡ at))
+    → (r : ListRefusal) × (x ≡ Err r) × (e.refusal ≡ from_list r) × (e.place ≡ at)
+refused_beside (Ok u) y e at Told h m k = let z : ◌≡◌ {A = ℕ} 0 1 = cc in absurd (omega arith)
+refused_beside (Err r) y e at Told h m k = let t = k r e (rw m at h) in (r, refl, t.0, t.1)
+
+pub same_refusal : {V : Type 0} (e : Refused) (f : Refusal) (at : ℕ) → e.refusal ≡ f → e.place ≡ at → ◌≡◌ {A = Read V} (refused e.refusal e.place) (refused f at)
+same_refusal e f at r p = rw (r, p)
 
 -- what becomes of the next entry: n more follow it
 abbrev entry : ℕ → List ℕ → List ℕ → ℕ → ℕ → ℕ → Read (List ℕ)

@@ -21,6 +21,7 @@ impl TryFrom<CellList<'_>> for Cells {
     fn try_from(list: CellList<'_>) -> Result<Cells, ListRefusal> {
         let mut cells = Cells::new();
         let mut left = list.entries;
+        // By a slice pattern, from the front: no index is counted.
         while let [high, low, rest @ ..] = left {
             cells.push(u16::from_be_bytes([*high, *low]))?;
             left = rest;

@@ -11,6 +11,24 @@ use super::super::refusal::{Refusal, Refused};
 use super::Reader;
 use order::Cells;
 
+/// The bit of a map that says that a class is there.
+const CLASS: u8 = 0;
+
+/// The bit of a map that says that a code is there.
+const CODE: u8 = 1;
+
+/// The bit of a map that says that an argument is there.
+const ARGUMENT: u8 = 2;
+
+/// The bit of a map that says that a read list is there.
+const READS: u8 = 3;
+
+/// The bit of a map that says that a write list is there.
+const WRITES: u8 = 4;
+
+/// The bit of a map that says that the write list is the read list.
+const SAME_LIST: u8 = 5;
+
 fn has_bit(map: u8, bit: u8) -> bool
     requires { bit < 8 }
     ensures { result ≡ stands_in map bit }
@@ -68,7 +86,7 @@ impl<'a> Reader<'a> {
     {
         let at = self.place;
         let map = self.byte()?;
-        if has_bit(map, 6) || has_bit(map, 7) || has_bit(map, 4) && has_bit(map, 5) {
+        if has_bit(map, 6) || has_bit(map, 7) || has_bit(map, WRITES) && has_bit(map, SAME_LIST) {
             return Err(Refusal::BadMap.at(at));
         }
         Ok(map)
@@ -91,7 +109,7 @@ impl<'a> Reader<'a> {
     fn class_field(&mut self, map: u8) -> Result<u8, Refused>
         ensures { Reads (λ c. c) self.old result self.new (λ t. field map 0 4 (class_at t)) }
     {
-        self.field(has_bit(map, 0), 4, |reader| {
+        self.field(has_bit(map, CLASS), 4, |reader| {
             reader.byte_up_to(7, Refusal::BadClass)
         })
     }
@@ -99,13 +117,13 @@ impl<'a> Reader<'a> {
     fn code_field(&mut self, map: u8) -> Result<u8, Refused>
         ensures { Reads (λ c. c) self.old result self.new (λ t. field map 1 1 (byte_at t)) }
     {
-        self.field(has_bit(map, 1), 1, Reader::byte)
+        self.field(has_bit(map, CODE), 1, Reader::byte)
     }
 
     fn argument_field(&mut self, map: u8) -> Result<u32, Refused>
         ensures { Reads (λ a. a) self.old result self.new (λ t. field map 2 0 (word_at t)) }
     {
-        self.field(has_bit(map, 2), 0, Reader::word)
+        self.field(has_bit(map, ARGUMENT), 0, Reader::word)
     }
 
     /// The entries of a list. A repeated cell is refused as soon as both its bytes have come.
@@ -118,10 +136,8 @@ impl<'a> Reader<'a> {
         for _ in 0..count {
             let at = self.place;
             let cell = self.cell()?;
-            // No `?`: only here is the place of the entry known.
-            if let Err(refusal) = seen.push(cell) {
-                return Err(Refusal::from(refusal).at(at));
-            }
+            seen.push(cell)
+                .map_err(|refusal| Refusal::from(refusal).at(at))?;
         }
         Ok(CellList {
             entries: &self.bytes[from..self.place],
@@ -156,10 +172,10 @@ impl<'a> Reader<'a> {
         requires { PartOf self.old.bytes.now reads }
         ensures { ReadsList self.old result self.new (λ t. writes_at t map (decoded_list reads.entry)) }
     {
-        if has_bit(map, 5) {
+        if has_bit(map, SAME_LIST) {
             Ok(reads)
         } else {
-            self.list_field(map, 4)
+            self.list_field(map, WRITES)
         }
     }
 
@@ -171,7 +187,7 @@ impl<'a> Reader<'a> {
         let class = self.class_field(map)?;
         let code = self.code_field(map)?;
         let argument = self.argument_field(map)?;
-        let reads = self.list_field(map, 3)?;
+        let reads = self.list_field(map, READS)?;
         let writes = self.writes_field(map, reads)?;
         Ok(Record {
             class,

@@ -9,10 +9,11 @@ use super::super::refusal::{Refusal, Refused};
 use super::Reader;
 
 /// Puts the reader back where it stood, at its end, unless what was read was accepted.
+// A guard, so that every way out of a reading puts the reader back.
 struct Rewind<'r, 'a> {
     reader: &'r mut Reader<'a>,
     start: Reader<'a>,
-    // A flag: a start that is taken away would say less plainly which way the guard ends.
+    // A flag and no Option of the start: it says which way the guard ends.
     accepted: bool,
 }
 

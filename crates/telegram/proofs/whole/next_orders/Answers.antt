@@ -1,4 +1,4 @@
-use Rattle.std.proofs.Common.{◌≡◌, length, ◌∙◌, rules, arith}
+use Rattle.std.proofs.Common.{length, ◌∙◌, rules, arith}
 use Rattle.std.proofs.lemmas.Result.{err_from_is_err_and}
 use Rattle.telegram.proofs.Orders.{places_again, places_stop, places_all}
 use Rattle.telegram.proofs.whole.next_orders.Goals as goal
