@@ -1,8 +1,9 @@
 -- What each store means, and what a write makes of it. Assumes nothing.
-use Rattle.std.specs.Prelude.{◌≡◌, ℕ, length, Option, Ok, Err, Result, nat_le}
+use Rattle.std.specs.Prelude.{◌≡◌, ℕ, length, None, Option, Ok, Err, Result, nat_le}
 use Rattle.store.specs.declared.fault.Fault.{Fault}
 use Rattle.store.specs.declared.dense.Dense.{Dense}
 use Rattle.store.specs.declared.sparse.Listed.{Listed}
+use Rattle.store.specs.declared.sparse.Listed.TheVariants.{Rising, Refused}
 use Rattle.store.specs.declared.slices.SliceStore.{SliceStore}
 use Rattle.store.specs.declared.layout.Layout as Layout
 use Rattle.store.specs.declared.window.Window.{Window}
@@ -30,9 +31,10 @@ dense_placed d n = dense_place (nat_le n 16384) n
 abbrev pub dense_seen : SliceStore Dense → Meaning
 dense_seen = slice_seen record { place = dense_placed }
 
--- the place where halving finds the cell
+-- the place where halving finds the cell among rising numbers; none among refused ones
 abbrev pub listed_placed : Listed → ℕ → ℕ → Option ℕ
-listed_placed l = place_of l.cells.now
+listed_placed (Rising cells) n c = place_of cells.now n c
+listed_placed (Refused cells) n c = None
 
 abbrev pub sparse_seen : SliceStore Listed → Meaning
 sparse_seen = slice_seen record { place = listed_placed }

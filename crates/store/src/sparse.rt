@@ -1,19 +1,23 @@
 ghost use Rattle.std.proofs.Common.{rules};
-ghost use Rattle.std.specs.Prelude.{◌≡◌, [], MatchBool};
+ghost use Rattle.std.specs.Prelude.{◌≡◌, if◌then◌else◌};
 ghost use Rattle.store.specs.Seen.{listed_placed, sparse_seen};
 ghost use Rattle.store.specs.Slices.{rising, paired, unless_taken, if_taken};
 ghost use Rattle.store.specs.Sparse.{sought, sparse_at, listed_at};
+ghost use Rattle.store.specs.declared.sparse.Listed.TheVariants.{Rising, Refused};
 
 use super::Built;
 use super::build::{MAX_CELLS, refusal_unless};
 use super::layout::Layout;
 use super::slices::SliceStore;
 
-/// The value of each cell stands at the place where a list of rising numbers has the cell.
+/// Which cells a store over two slices has.
 // Apart from the values: both slices are lent, as the caller has them.
 #[derive(Drop)]
-pub struct Listed<'a> {
-    cells: &'a [u16],
+pub enum Listed<'a> {
+    /// Numbers that rise strictly: each cell has the value at the place of its number.
+    Rising(&'a [u16]),
+    /// Numbers that were refused: no cells.
+    Refused(&'a [u16]),
 }
 
 /// The cells that a lent slice lists, with their values at the same places of another; no cells if the slices are refused.
@@ -63,8 +67,13 @@ impl Layout for Listed<'_> {
     ghost apart = { λ it n c d i p q. Prim.search rules };
 
     fn place(&self, len: usize, cell: u16) -> Option<usize> {
-        let place = seek(self.cells, cell);
-        (self.cells.get(place) == Some(&cell) && place < len).then_some(place)
+        match *self {
+            Listed::Rising(cells) => {
+                let place = seek(cells, cell);
+                (cells.get(place) == Some(&cell) && place < len).then_some(place)
+            }
+            Listed::Refused(_) => None,
+        }
     }
 }
 
@@ -73,15 +82,17 @@ impl<'a, 'b> SparseStore<'a, 'b> {
     pub fn new(cells: &'a [u16], values: &'b mut [u32]) -> Built<SparseStore<'a, 'b>>
         ensures answers { result.refused ≡ unless_taken (paired cells.now values.old) }
         ensures means { sparse_seen result.store ≡ if_taken (paired cells.now values.old) (listed_at cells.now values.old) }
-        ensures lists { MatchBool (paired cells.now values.old) (result.store.layout.cells ≡ cells.entry) (result.store.layout.cells.now ≡ []) }
+        ensures lists { result.store.layout ≡ (if paired cells.now values.old then Rising cells.entry else Refused cells.entry) }
         ensures holds { result.store.values.now ≡ values.old }
         ensures lent { result.store.values.ghost_name ≡ values.entry.ghost_name }
     {
         let taken = fit(cells, values);
         Built {
             store: SliceStore {
-                layout: Listed {
-                    cells: if taken { cells } else { &[] },
+                layout: if taken {
+                    Listed::Rising(cells)
+                } else {
+                    Listed::Refused(cells)
                 },
                 values,
             },
