@@ -40,8 +40,8 @@ fn fit(cells: &[u16], values: &[u32]) -> bool
 }
 
 /// The place that a cell would have among rising ones, found by halving.
-// By hand: `binary_search` promises where a cell is and not in how many steps, and that fifteen halvings are enough is a
-// law about this very search (`FifteenHalvings`, over `sought`).
+// By hand: what halving finds in every list, also one that does not rise, is the definition `sought`, and that fifteen
+// halvings are enough is a law about it; the library's `binary_search` promises a place and no steps.
 #[tactic(auto, using(crate::proofs::Halving::halved_up, crate::proofs::Halving::halved_down, crate::proofs::Halving::halved_end))]
 fn seek(cells: &[u16], cell: u16) -> usize
     ensures { result ≡ sought cells.now cell }
