@@ -9,6 +9,7 @@ pub enum Refusal {
 }
 
 /// The number of the refusal.
+// By a match, so that an edit of one number is refused by the check and not by the compiler.
 impl From<Refusal> for u8 {
     ghost from_gives = { λ r n. n ≡ refusal_number r };
 
@@ -20,7 +21,7 @@ impl From<Refusal> for u8 {
 }
 
 /// A store as it was built; if the slices were refused, the refusal, beside a store without cells.
-// No Result: a refused store is there too, and gives the lent memory back.
+// No Result, since the store is used on, without cells, and gives the lent memory back.
 #[derive(Drop)]
 pub struct Built<S> {
     pub store: S,
@@ -31,6 +32,7 @@ pub struct Built<S> {
 pub const MAX_CELLS: usize = 16384;
 
 /// The refusal, unless the slices are taken.
+// No Result, since it answers what `Built` holds.
 pub fn refusal_unless(taken: bool) -> Option<Refusal>
     ensures { result ≡ unless_taken taken }
 {

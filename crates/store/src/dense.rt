@@ -24,7 +24,7 @@ impl Layout for Dense {
     ghost apart = { λ it n c d i p q. Prim.search rules };
 
     fn place(&self, len: usize, cell: u16) -> Option<usize> {
-        let place = cell as usize;
+        let place = usize::from(cell);
         (len <= MAX_CELLS && place < len).then_some(place)
     }
 }

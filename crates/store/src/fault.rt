@@ -19,6 +19,7 @@ pub struct Fault {
 }
 
 /// The number of the cause.
+// By a match, so that an edit of one number is refused by the check and not by the compiler.
 impl From<Cause> for u8 {
     ghost from_gives = { λ c n. n ≡ cause_number c };
 
