@@ -43,6 +43,7 @@ impl<S: Store> WriteBuffer<S> {
         ensures keeps { buffer_seen S.Store self.new ≡ buffer_seen S.Store self.old }
         ensures went { AllSent S.Store (held_by self.old) self.old.below self.new.below }
     {
+        // Until nothing is held, so no index is counted.
         while let Some(oldest) = self.entries.take_oldest() {
             let _ = self.below.write(oldest.cell, oldest.value);
         }

@@ -11,8 +11,9 @@ pub struct Entry {
 /// Up to sixteen written values that are held back, the one held longest first.
 ///
 /// Every content has a meaning: a count above sixteen is read as sixteen, and of two entries of a cell the younger one counts.
-// A fixed array with a count: a buffer takes no memory but its own. Its type does not bound the count, since no proof covers
-// a type argument that holds a ghost field beside a `&mut`, as a buffer over lent memory under another layer would.
+// A fixed array with a count, since a buffer takes no memory but its own and the library stands on no crate of the kit (an
+// `ArrayVec` would be one). Its type does not bound the count, since no proof covers a type argument that holds a ghost field
+// beside a `&mut`, as a buffer over lent memory under another layer would.
 #[derive(Drop)]
 pub struct Entries {
     slots: [Entry; 16],
@@ -34,8 +35,7 @@ impl Entries {
     fn as_slice(&self) -> &[Entry]
         ensures { result.now ≡ by_age self.now }
     {
-        let slots: &[Entry] = &self.slots;
-        &slots[0..self.count.min(slots.len())]
+        &self.slots[..self.count.min(16)]
     }
 
     /// The value that is held for a cell.
