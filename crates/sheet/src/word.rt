@@ -24,7 +24,7 @@ impl Word for u8 {
 
     fn from_word(word: &[u8]) -> Option<u8> {
         match word {
-            [high, low] => u8::try_from(digit(*high, 16)? * 16 + digit(*low, 16)?).ok(),
+            [high, low] => Some((digit(*high, 16)? * 16 + digit(*low, 16)?) as u8),
             _ => None,
         }
     }
