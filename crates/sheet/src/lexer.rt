@@ -1,12 +1,12 @@
 //! Cuts a line into its words.
-ghost use Rattle.std.specs.Prelude.{◌≡◌, ◌≤◌, length};
+ghost use Rattle.std.specs.Prelude.{◌≡◌, ℕ, ◌≤◌, Bool, length};
 ghost use Rattle.std.specs.Iterator.{YieldsFirstBy, item_count};
-ghost use Rattle.std.specs.List.{position_or_len, prefix_len};
+ghost use Rattle.std.specs.List.{prefix_len};
 ghost use Rattle.sheet.specs.Ends.{without_end};
 ghost use Rattle.sheet.specs.Words.{is_blank, is_comment, uncommented, plain_words, end_of};
 
-// A type of its own: `split(..).filter(..)` names its closures, so no function could hand it out.
 /// The words that are still to come in a text that has no comment.
+// A type of its own: `split(..).filter(..)` names its closures, so no function could hand it out.
 #[derive(Drop)]
 pub struct Words<'a> {
     rest: &'a [u8],
@@ -37,8 +37,8 @@ impl<'a> Iterator for Words<'a> {
 
     /// The next word, which is then no longer to come.
     fn next(&mut self) -> Option<&'a [u8]> {
-        let text = &self.rest[blanks_len(self.rest)..];
-        let (word, rest) = text.split_at(word_len(text));
+        let text = &self.rest[prefix_len(self.rest, is_blank)..];
+        let (word, rest) = text.split_at(prefix_len(text, |byte| !is_blank(byte)));
         self.rest = rest;
         if word.is_empty() { None } else { Some(word) }
     }
@@ -59,33 +59,16 @@ pub fn without_end(line: &[u8]) -> &[u8]
 pub fn before_comment(text: &[u8]) -> &[u8]
     ensures { result.now ≡ uncommented text.now }
 {
-    &text[..comment_start(text)]
+    &text[..prefix_len(text, |byte| !is_comment(byte))]
 }
 
-// One chain for each count: a function that is told the test would be no shorter, and its contract longer.
-
-/// How many bytes stand before the first `#`.
-fn comment_start(text: &[u8]) -> usize
-    ensures value { result ≡ position_or_len is_comment text.now }
+/// How many bytes the text begins with that pass the test.
+fn prefix_len<F: Fn(u8) -> bool>(text: &[u8], test: F) -> usize
+    requires { F.IsAlwaysCallable test }
+    ensures value { (p : ℕ → Bool) → ((b : ℕ) (r : Bool) → F.post test b r → r ≡ p b) → result ≡ prefix_len p text.now }
     ensures bound { result ≤ length text.now }
 {
-    text.iter().take_while(|byte| !is_comment(**byte)).count()
-}
-
-/// How many blanks the text begins with.
-fn blanks_len(text: &[u8]) -> usize
-    ensures value { result ≡ prefix_len is_blank text.now }
-    ensures bound { result ≤ length text.now }
-{
-    text.iter().take_while(|byte| is_blank(**byte)).count()
-}
-
-/// How many bytes stand before the first blank.
-fn word_len(text: &[u8]) -> usize
-    ensures value { result ≡ position_or_len is_blank text.now }
-    ensures bound { result ≤ length text.now }
-{
-    text.iter().take_while(|byte| !is_blank(**byte)).count()
+    text.iter().take_while(|byte| test(**byte)).count()
 }
 
 /// Whether the byte parts words.
