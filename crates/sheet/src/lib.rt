@@ -42,6 +42,7 @@ pub enum LineError {
     NoMemory,
 }
 
+// By hand, since a derived text has no contract.
 impl fmt::Display for LineError {
     ghost output = { λ why. Some (text_of why) };
 
@@ -63,8 +64,8 @@ impl<T: Drop> From<AllocFailed<T>> for LineError {
     }
 }
 
-// Beside `read_sheet_line`, since a sheet without a store has fewer lines.
 /// Reads a line, given without its line end.
+// Beside `read_sheet_line`, since a sheet without a store has fewer lines.
 pub fn read_line(heap: Global, text: &[u8]) -> Result<Line, LineError>
     ensures { Tells said_by result (line_of text.now) }
 {
@@ -77,6 +78,7 @@ pub fn read_line(heap: Global, text: &[u8]) -> Result<Line, LineError>
 
 /// Reads what the words of a line say: its first, and those that come after it.
 // The allocator stands apart from the words, as in the library: only what allocates is given it.
+// The first word stands apart from the others: it is taken first, to tell a line without words.
 #[tactic(auto, using(crate::proofs::Verbs::six_letters))]
 fn read_sentence(heap: Global, verb: &[u8], words: Words) -> Result<Line, LineError>
     ensures { Tells said_by result (sentence_of (verb.now ∷ plain_words words.entry.rest.now)) }

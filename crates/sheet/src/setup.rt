@@ -19,6 +19,7 @@ pub struct Setup {
 }
 
 /// The cells of the store that a sheet wants.
+// The lent form of `StoreKind`, as `&[T]` is of `Vec<T>`.
 #[derive(Drop)]
 pub enum StoreCells<'a> {
     /// The cells below a number.

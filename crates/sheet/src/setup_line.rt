@@ -70,8 +70,8 @@ fn read_store(heap: Global, mut words: Words) -> Result<StoreKind, LineError>
     }
 }
 
-// An `Option`, as of each reader that takes no memory: want of memory stays apart from it.
 /// The window that the words to come say: its base, then its length.
+// An `Option`, as of each reader that takes no memory: want of memory stays apart from it.
 fn read_window(mut words: Words) -> Option<WindowSize>
     ensures { result ≡ window_of (plain_words words.entry.rest.now) }
 {

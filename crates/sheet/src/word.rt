@@ -79,8 +79,8 @@ pub fn read_all<T: Word + Drop>(heap: Global, words: Words) -> Result<Vec<T>, Li
     Ok(all)
 }
 
-// Only the number of a cell, or of cells, ever stands alone, so this is for no other `Word`.
 /// The number that the only word to come says.
+// Only the number of a cell, or of cells, ever stands alone, so this is for no other `Word`.
 pub fn only_number(mut words: Words) -> Option<u16>
     ensures { result ≡ only_number (plain_words words.entry.rest.now) }
 {
