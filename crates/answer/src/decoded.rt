@@ -69,6 +69,7 @@ impl fmt::Display for Accepted<'_> {
 
     fn fmt<W: fmt::Write>(&self, f: &mut fmt::Formatter<W>) -> fmt::Result {
         writeln!(f, "decode: accepted")?;
+        // The number is printed, and nothing is looked up by it.
         for (number, order) in self.0.iter().enumerate() {
             write!(f, "{}", OrderLine { number, order })?;
         }

@@ -52,6 +52,7 @@ impl fmt::Display for RefusedStore {
 }
 
 /// What is said of a store as it is built: nothing, unless it was refused.
+// It takes what `Built` holds beside a store.
 pub fn build_answer(heap: Global, refused: Option<Refusal>) -> Result<String, AllocError>
     ensures { IfOk result (λ s. string_bytes s ≡ build_text refused) }
 {

@@ -13,7 +13,7 @@ pub struct SheetLines<R> {
     heap: Global,
     input: R,
     text: Vec<u8>,
-    /// The number of the line that was read last, counted from 1.
+    /// How many lines were asked for so far.
     number: u64,
 }
 
