@@ -40,6 +40,7 @@ pub enum SetupLine {
 }
 
 /// Reads a set-up line: its first word, and those that come after it.
+#[tactic(auto, using(crate::proofs::Verbs::piece_told))]
 pub fn read_setup_line(heap: Global, verb: &[u8], words: Words) -> Result<SetupLine, LineError>
     ensures { Tells piece_said result (piece_of verb.now (plain_words words.entry.rest.now)) }
 {
