@@ -6,6 +6,8 @@ use std::process::Abort;
 use std::test::Fail;
 use store::{DenseStore, Refusal, Store, Window};
 
+// One helper for each kind of line, since each has a pattern of its own.
+
 fn not_understood(rt: &HostRuntime, text: &[u8]) -> Result<(), Fail> {
     match read_line(rt.alloc(), text) {
         Err(LineError::NotUnderstood) => Ok(()),

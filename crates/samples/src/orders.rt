@@ -47,7 +47,8 @@ fn numbers_of_list_refusals(rt: HostRuntime) {
     assert_eq!(rt; u8::from(Refusal::from(ListRefusal::Repeated)), 7);
 }
 
-/// What becomes of a record that no reader made.
+/// Why a record that no reader made is refused, if it is.
+// An `Option`: orders are not compared here.
 fn order_refusal<'a>(class: u8, reads: &'a [u8], writes: &'a [u8]) -> Option<Refusal> {
     let reads = CellList {
         entries: reads,
