@@ -65,6 +65,7 @@ pub fn before_comment(text: &[u8]) -> &[u8]
 /// How many bytes the text begins with that pass the test.
 fn prefix_len<F: Fn(u8) -> bool>(text: &[u8], test: F) -> usize
     requires { F.IsAlwaysCallable test }
+    // p is what the test answers at each byte.
     ensures value { (p : ℕ → Bool) → ((b : ℕ) (r : Bool) → F.post test b r → r ≡ p b) → result ≡ prefix_len p text.now }
     ensures bound { result ≤ length text.now }
 {
