@@ -6,10 +6,8 @@ use std::process::Abort;
 use std::test::Fail;
 use store::{DenseStore, Refusal, Store, Window};
 
-// One helper for each kind of line, since each has a pattern of its own.
-
-fn not_understood(rt: &HostRuntime, text: &[u8]) -> Result<(), Fail> {
-    match read_line(rt.alloc(), text) {
+fn not_understood<T: Drop>(read: Result<T, LineError>) -> Result<(), Fail> {
+    match read {
         Err(LineError::NotUnderstood) => Ok(()),
         _ => Err(Fail::new("understood")),
     }
@@ -17,31 +15,24 @@ fn not_understood(rt: &HostRuntime, text: &[u8]) -> Result<(), Fail> {
 
 #[test]
 fn lines_not_understood(rt: HostRuntime) -> Result<(), Fail> {
-    not_understood(&rt, b"code 00")?;
-    not_understood(&rt, b"Decode 00")?;
-    not_understood(&rt, b"decoded 00")?;
-    not_understood(&rt, b"00")?;
-    not_understood(&rt, b"decode 0")?;
-    not_understood(&rt, b"decode 000")?;
-    not_understood(&rt, b"decode 0g")?;
-    not_understood(&rt, b"decode 0x")?;
-    not_understood(&rt, b"decode 00 1")?;
-    not_understood(&rt, b"decode 00,01")?;
-    not_understood(&rt, b"decode 0#0")?;
-    not_understood(&rt, b"decode\r")?;
-    not_understood(&rt, b"\xFF")
-}
-
-fn no_sheet_line(rt: &HostRuntime, text: &[u8]) -> Result<(), Fail> {
-    match read_sheet_line(rt.alloc(), text) {
-        Err(LineError::NotUnderstood) => Ok(()),
-        _ => Err(Fail::new("understood")),
-    }
+    not_understood(read_line(rt.alloc(), b"code 00"))?;
+    not_understood(read_line(rt.alloc(), b"Decode 00"))?;
+    not_understood(read_line(rt.alloc(), b"decoded 00"))?;
+    not_understood(read_line(rt.alloc(), b"00"))?;
+    not_understood(read_line(rt.alloc(), b"decode 0"))?;
+    not_understood(read_line(rt.alloc(), b"decode 000"))?;
+    not_understood(read_line(rt.alloc(), b"decode 0g"))?;
+    not_understood(read_line(rt.alloc(), b"decode 0x"))?;
+    not_understood(read_line(rt.alloc(), b"decode 00 1"))?;
+    not_understood(read_line(rt.alloc(), b"decode 00,01"))?;
+    not_understood(read_line(rt.alloc(), b"decode 0#0"))?;
+    not_understood(read_line(rt.alloc(), b"decode\r"))?;
+    not_understood(read_line(rt.alloc(), b"\xFF"))
 }
 
 fn none_understood(rt: &HostRuntime, lines: &[&[u8]]) -> Result<(), Fail> {
     for line in lines {
-        no_sheet_line(rt, line)?;
+        not_understood(read_sheet_line(rt.alloc(), line))?;
     }
     Ok(())
 }
@@ -125,6 +116,8 @@ fn sheet_lines_that_need_no_store(rt: HostRuntime) -> Result<(), Fail> {
         _ => Err(Fail::new("not empty")),
     }
 }
+
+// A helper for each kind of line that is understood, since each has a pattern of its own.
 
 fn asks_for(rt: &(impl Abort + AllocGlobal), text: &[u8], cell: u16) -> Result<(), Fail> {
     match read_sheet_line(rt.alloc(), text) {

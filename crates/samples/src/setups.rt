@@ -12,6 +12,7 @@ fn add(rt: &HostRuntime, setup: &mut Setup, text: &[u8]) -> Result<(), Fail> {
     }
 }
 
+// Apart from `add`: a line that comes a second time has an outcome of its own.
 fn second(rt: &HostRuntime, setup: &mut Setup, text: &[u8]) -> Result<(), Fail> {
     match read_sheet_line(rt.alloc(), text) {
         Ok(SheetLine::Setup(line)) => match setup.add(line) {
@@ -32,6 +33,7 @@ fn dense(rt: &impl Abort, setup: &Setup, count: u16) -> Result<(), Fail> {
     }
 }
 
+// Apart from `dense`, by its pattern.
 fn sparse(rt: &impl Abort, setup: &Setup, numbers: &[u16]) -> Result<(), Fail> {
     match setup.store() {
         StoreCells::Dense(_) => Err(Fail::new("a dense store")),

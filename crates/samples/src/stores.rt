@@ -4,6 +4,8 @@ use std::test::Fail;
 use store::{Cause, DenseStore, Fault, Refusal, SparseStore, Store, Window, copy};
 use write_buffer::WriteBuffer;
 
+// Two names for two causes: the tests say them many times.
+
 fn missing(cell: u16, depth: u16) -> Fault {
     Fault {
         cause: Cause::NoSuchCell,
@@ -274,7 +276,7 @@ fn buffers_hold_back(rt: HostRuntime) {
 fn write_sixteen<S: Store>(rt: &impl Abort, store: &mut S) {
     // Over the cells themselves, not over places.
     for cell in 0..16 {
-        assert_eq!(rt; store.write(cell, 100 + cell as u32), Ok(()));
+        assert_eq!(rt; store.write(cell, 100 + u32::from(cell)), Ok(()));
     }
 }
 

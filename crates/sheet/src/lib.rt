@@ -25,6 +25,7 @@ pub use sheet_line::{SheetLine, read_sheet_line};
 pub use word::laws_of_numbers;
 
 /// One line of a run sheet, as understood.
+// No `Option` of the bytes: the kinds of lines have names.
 #[derive(Drop)]
 pub enum Line {
     /// No word stands in the line.

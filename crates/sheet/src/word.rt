@@ -24,6 +24,7 @@ impl Word for u8 {
 
     fn from_word(word: &[u8]) -> Option<u8> {
         match word {
+            // Two digits below 16 make a byte.
             [high, low] => Some((digit(*high, 16)? * 16 + digit(*low, 16)?) as u8),
             _ => None,
         }

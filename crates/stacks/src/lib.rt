@@ -59,6 +59,7 @@ impl WindowedCopy {
     }
 
     /// Copies through a buffer over a window over a dense store, and gives the lent values back.
+    // Each call below says its promise whole, of its own memory: a definition of all of it would have six parameters.
     pub fn in_dense<'a>(self, values: &'a mut [u32]) -> Copied<&'a mut [u32]>
         ensures answers { result.answer ≡ copy_answer (stack_over (dense_over values.old) self.base self.len) self.from self.to }
         ensures memory { result.below.now ≡ memory_after (stack_over (dense_over values.old) self.base self.len self.from) (window_at (dense_over values.old) self.base self.len self.to) (placed self.base self.len self.to) (dense_place (short values.old) (length values.old)) values.old }

@@ -9,7 +9,7 @@ pub enum Refusal {
 }
 
 /// The number of the refusal.
-// By a match, so that an edit of one number is refused by the check and not by the compiler.
+// By a match, as the numbers of the other refusals.
 impl From<Refusal> for u8 {
     ghost from_gives = { λ r n. n ≡ refusal_number r };
 

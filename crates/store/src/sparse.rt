@@ -11,7 +11,7 @@ use super::layout::Layout;
 use super::slices::SliceStore;
 
 /// Which cells a store over two slices has.
-// Apart from the values: both slices are lent, as the caller has them.
+// Apart from the values: both slices are lent, as the caller has them. No `Option`: refused numbers are kept too.
 #[derive(Drop)]
 pub enum Listed<'a> {
     /// Numbers that rise strictly: each cell has the value at the place of its number.
@@ -40,8 +40,8 @@ fn fit(cells: &[u16], values: &[u32]) -> bool
 }
 
 /// The place that a cell would have among rising ones, found by halving.
-// By hand: what halving finds in every list, also one that does not rise, is the definition `sought`, and that fifteen
-// halvings are enough is a law about it; the library's `binary_search` promises a place and no steps.
+// By hand: the rules ask for at most fifteen halvings. What halving finds in every list is the definition `sought`, and that
+// fifteen are enough is a law about it; the library's `binary_search` promises a place and no steps.
 #[tactic(auto, using(crate::proofs::Halving::halved_up, crate::proofs::Halving::halved_down, crate::proofs::Halving::halved_end))]
 fn seek(cells: &[u16], cell: u16) -> usize
     ensures { result ≡ sought cells.now cell }

@@ -86,6 +86,7 @@ impl<'a> Reader<'a> {
     {
         let at = self.place;
         let map = self.byte()?;
+        // Bits 6 and 7 mean nothing, so they have no name.
         if has_bit(map, 6) || has_bit(map, 7) || has_bit(map, WRITES) && has_bit(map, SAME_LIST) {
             return Err(Refusal::BadMap.at(at));
         }
