@@ -1,6 +1,6 @@
 -- How a number is read digit by digit. Assumes nothing.
 use Rattle.std.proofs.Common.{◌≡◌, ℕ, ◌+◌, ◌-◌, ◌*◌, ◌/◌, ◌%◌, ◌^◌, ◌<◌, ◌≤◌, true, List, [], ◌∷◌, ◌++◌, length, get_or, drop, Some, None, decimal, sym, refl, ap, ◌∙◌, arith}
-use Rattle.std.proofs.lemmas.List.{drop_more, drop_all}
+use Rattle.std.proofs.lemmas.List.{drop_more}
 use Rattle.std.proofs.lemmas.Bool.Decides.{nat_tests}
 use Rattle.std.proofs.lemmas.Fmt.{decimal_by_steps, decimal_nonempty}
 use Rattle.sheet.specs.Numbers.{is_digit, decimal_digit, digits_after, up_to, number_of, NumbersReadBack, ZerosDropped}
@@ -22,10 +22,6 @@ above max n (c ∷ cs) h = grind (arith, nat_tests, above max (n * 10 + (c - 48)
 pub digits_above : (max : ℕ) (w : List ℕ) (i n : ℕ) → i < length w → ((d : ℕ) → decimal_digit (get_or w i 0) ≡ Some d → max < n * 10 + d)
     → digits_after 0 w ≡ digits_after n (drop i w) → None ≡ number_of max w
 digits_above max w i n h past inv = grind (arith, nat_tests, number_some max w, drop_more w i 0 h, above max (n * 10 + (get_or w i 0 - 48)) (drop (i + 1) w), past (get_or w i 0 - 48))
-
-pub digits_all : (max : ℕ) (w : List ℕ) (i n : ℕ) → 0 < length w → length w ≤ i → n ≤ max
-    → digits_after 0 w ≡ digits_after n (drop i w) → Some n ≡ number_of max w
-digits_all max w i n some h small inv = grind (arith, nat_tests, number_some max w, drop_all i w h)
 
 -- ---- what is written of a number
 

@@ -1,5 +1,5 @@
-use Rattle.std.proofs.Common.{◌≡◌, refl, ◌∙◌, arith, false-eqb}
-use Rattle.sheet.proofs.Digits.{digits_above, digits_all}
+use Rattle.std.proofs.Common.{◌≡◌, refl, ◌∙◌, arith}
+use Rattle.sheet.proofs.Digits.{digits_above}
 use Rattle.sheet.proofs.word.U32Word.from_word.Goals as goal
 
 pub returns-in_err-checked_mul : goal.returns-in_err-checked_mul
@@ -11,8 +11,3 @@ returns-in_err-number c =
     c.from_residual-in_err-number.ensures
     ∙ digits_above 4294967295 c.args.word.now c.loop-code.code-index c.loop-code.number (omega arith)
     (λ d e. let same : d ≡ c.in_ok-digit.field-0 = cc (c.in_ok-digit.ensures.decimal refl) in omega arith) c.loop-code.invariant.1
-
-pub returns : goal.returns
-returns c =
-    let some = false-eqb _ 0 c.if-is_empty.ensures in
-    digits_all 4294967295 c.args.word.now c.loop-code.code-index c.loop-code.number (omega arith) (omega arith) c.loop-code.invariant.0 c.loop-code.invariant.1
