@@ -3,17 +3,17 @@ ghost use Rattle.std.specs.Prelude.{◌-◌, ◌^◌};
 ghost use Rattle.std.specs.Iterator.{at_most};
 
 use anyhow::anyhow;
-use sheet::{LineError, SheetLine, read_sheet_line, without_end};
+use sheet::{Line, LineError, SheetLine, read_sheet_line, without_end};
 use std::alloc::Global;
 use std::io::BufRead;
 
-/// The lines of a sheet, as an input gives them.
+/// The lines of a sheet that are not blank, as an input gives them.
 #[derive(Drop)]
 pub struct SheetLines<R> {
     heap: Global,
     input: R,
     text: Vec<u8>,
-    /// How many lines were asked for so far.
+    /// How many lines were asked for so far, blank ones too.
     number: u64,
 }
 
@@ -35,7 +35,7 @@ impl<R: BufRead> SheetLines<R> {
     }
 
     /// Reads the next line, which has this number, unless the input is at its end.
-    fn read_line(&mut self, number: u64) -> anyhow::Result<Option<NumberedLine>> {
+    fn read_line(&mut self, number: u64) -> anyhow::Result<Option<SheetLine>> {
         // Not by `split`, which takes the line feed away: a carriage return ends a line only before one.
         self.text.clear();
         if self.input.read_until(b'\n', &mut self.text)? == 0 {
@@ -43,7 +43,7 @@ impl<R: BufRead> SheetLines<R> {
         }
         let text = without_end(self.text.as_slice());
         let line = read_sheet_line(self.heap, text).map_err(|why| error_at(number, why))?;
-        Ok(Some(NumberedLine { number, line }))
+        Ok(Some(line))
     }
 }
 
@@ -52,12 +52,22 @@ impl<R: BufRead + Drop> Iterator for SheetLines<R> {
 
     ghost remaining = { λ lines. at_most (2 ^ 64 - 1 - lines.number) };
 
+    /// The next line that is not blank.
     fn next(&mut self) -> Option<anyhow::Result<NumberedLine>> {
         // Nothing says that an input ends, so the numbers of the lines bound what is read of it.
-        let number = self.number.checked_add(1)?;
-        let line = self.read_line(number);
-        self.number = number;
-        line.transpose()
+        for before in self.number..u64::MAX {
+            let number = before + 1;
+            let line = self.read_line(number);
+            self.number = number;
+            match line {
+                // Passed over here: what is given out has room for an error, and is copied with it.
+                Ok(Some(SheetLine::Plain(Line::Empty))) => {}
+                Ok(Some(line)) => return Some(Ok(NumberedLine { number, line })),
+                Ok(None) => return None,
+                Err(error) => return Some(Err(error)),
+            }
+        }
+        None
     }
 }
 
