@@ -24,13 +24,13 @@ order_sound d s =
 sound_at : (t : List ℕ) (p q : ℕ) (d : DecodedOrder) → p ≤ length t → got d q ≡ record_at t p → SoundOrder d
 sound_at t p q d l e = (got_record t p q d l (sym e)).2
 
-order_read : (t : List ℕ) (p q : ℕ) (d : DecodedOrder) (o : StockOrder) → p ≤ length t → got d q ≡ record_at t p → Ok o ≡ order_in d → got o q ≡ order_at t p
+pub order_read : (t : List ℕ) (p q : ℕ) (d : DecodedOrder) (o : StockOrder) → p ≤ length t → got d q ≡ record_at t p → Ok o ≡ order_in d → got o q ≡ order_at t p
 order_read t p q d o l e h =
     let s = order_sound d (sound_at t p q d l e) in
     let same : o ≡ order_of d = cc in
     rw (sym e, same)
 
-order_kept : (t : List ℕ) (p q : ℕ) (d : DecodedOrder) (e : Refusal) → p ≤ length t → got d q ≡ record_at t p → Err e ≡ order_in d → ⊥
+pub order_kept : (t : List ℕ) (p q : ℕ) (d : DecodedOrder) (e : Refusal) → p ≤ length t → got d q ≡ record_at t p → Err e ≡ order_in d → ⊥
 order_kept t p q d e l g h =
     let s = order_sound d (sound_at t p q d l g) in
     let z : ◌≡◌ {A = ℕ} 0 1 = cc in
@@ -47,7 +47,7 @@ abbrev pub remaining : ℕ → List ℕ → ℕ → List StockOrder → Read (Li
 remaining n t p xs = next (records_at n t p) (λ ds q. got (xs ++ map order_of ds) q)
 
 -- one order more is read
-remaining_more : (m : ℕ) (t : List ℕ) (p q : ℕ) (xs : List StockOrder) (o : StockOrder) → got o q ≡ order_at t p → remaining (suc m) t p xs ≡ remaining m t q (xs ++ (o ∷ []))
+pub remaining_more : (m : ℕ) (t : List ℕ) (p q : ℕ) (xs : List StockOrder) (o : StockOrder) → got o q ≡ order_at t p → remaining (suc m) t p xs ≡ remaining m t q (xs ++ (o ∷ []))
 remaining_more m t p q xs o e = step (record_at t p) e
   where
     after : (d : DecodedOrder) (w : Read (List DecodedOrder)) → o ≡ order_of d → next (next w (λ ds r. got (d ∷ ds) r)) (λ ds q. got (xs ++ map order_of ds) q) ≡ next w (λ ds q. got ((xs ++ (o ∷ [])) ++ map order_of ds) q)
@@ -63,7 +63,7 @@ remaining_more m t p q xs o e = step (record_at t p) e
         after d (records_at m t z) same ∙ ap (λ n. remaining m t n (xs ++ (o ∷ []))) at
 
 -- or refused
-remaining_stop : (m : ℕ) (t : List ℕ) (p r : ℕ) (xs : List StockOrder) (e : Refusal) → refused e r ≡ order_at t p → remaining (suc m) t p xs ≡ refused e r
+pub remaining_stop : (m : ℕ) (t : List ℕ) (p r : ℕ) (xs : List StockOrder) (e : Refusal) → refused e r ≡ order_at t p → remaining (suc m) t p xs ≡ refused e r
 remaining_stop m t p r xs e h = step (record_at t p) h
   where
     step : (w : Read DecodedOrder) → refused e r ≡ next w (λ d z. got (order_of d) z)

@@ -169,17 +169,6 @@ impl<'a> Reader<'a> {
         self.field(has_bit(map, bit), empty, Reader::list)
     }
 
-    fn writes_field(&mut self, map: u8, reads: CellList<'a>) -> Result<CellList<'a>, Refused>
-        requires { PartOf self.old.bytes.now reads }
-        ensures { ReadsList self.old result self.new (λ t. writes_at t map (decoded_list reads.entry)) }
-    {
-        if has_bit(map, SAME_LIST) {
-            Ok(reads)
-        } else {
-            self.list_field(map, WRITES)
-        }
-    }
-
     pub(super) fn record(&mut self) -> Result<Record<'a>, Refused>
         ensures parts { IfOk result (PartsOf self.old.bytes.now) }
         ensures value { Reads decoded self.old result self.new record_at }
@@ -189,7 +178,12 @@ impl<'a> Reader<'a> {
         let code = self.code_field(map)?;
         let argument = self.argument_field(map)?;
         let reads = self.list_field(map, READS)?;
-        let writes = self.writes_field(map, reads)?;
+        // Chosen here: in a function of its own it would be an answer, and copied once more.
+        let writes = if has_bit(map, SAME_LIST) {
+            reads
+        } else {
+            self.list_field(map, WRITES)?
+        };
         Ok(Record {
             class,
             code,

@@ -79,9 +79,14 @@ impl<'a> Reader<'a> {
             start,
             accepted: false,
         };
-        let answer = read(rewind.reader);
-        rewind.accepted = answer.is_ok();
-        answer
+        // By a match: an answer that is held while the flag is set is copied on its way, and reading takes up to three times as long.
+        match read(rewind.reader) {
+            Ok(value) => {
+                rewind.accepted = true;
+                Ok(value)
+            }
+            Err(refused) => Err(refused),
+        }
     }
 
     /// Whether all bytes were read.
