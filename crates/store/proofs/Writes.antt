@@ -11,7 +11,7 @@ same_check true (Ok v) w = refl
 same_check true (Err e) w = refl
 same_check false r w = refl
 
-cells_stay : (f : Meaning) (c w k : ℕ) → checked (put f c w k) ≡ checked (f k)
+pub cells_stay : (f : Meaning) (c w k : ℕ) → checked (put f c w k) ≡ checked (f k)
 cells_stay f c w k = same_check (eqb k c) (f k) w
 
 pub cells_never_change : (f : Meaning) (ws : List (ℕ × ℕ)) (k : ℕ) → checked (after_writes f ws k) ≡ checked (f k)
