@@ -7,13 +7,13 @@ use sheet::{Line, LineError, SheetLine, read_sheet_line, without_end};
 use std::alloc::Global;
 use std::io::BufRead;
 
-/// The lines of a sheet that are not blank, as an input gives them.
+/// The lines of a sheet that have a word, as an input gives them.
 #[derive(Drop)]
 pub struct SheetLines<R> {
     heap: Global,
     input: R,
     text: Vec<u8>,
-    /// How many lines were asked for so far, blank ones too.
+    /// How many lines were asked for so far, those without a word too.
     number: u64,
 }
 
@@ -52,7 +52,7 @@ impl<R: BufRead + Drop> Iterator for SheetLines<R> {
 
     ghost remaining = { λ lines. at_most (2 ^ 64 - 1 - lines.number) };
 
-    /// The next line that is not blank.
+    /// The next line that has a word.
     fn next(&mut self) -> Option<anyhow::Result<NumberedLine>> {
         // Nothing says that an input ends, so the numbers of the lines bound what is read of it.
         for before in self.number..u64::MAX {
@@ -60,7 +60,7 @@ impl<R: BufRead + Drop> Iterator for SheetLines<R> {
             let line = self.read_line(number);
             self.number = number;
             match line {
-                // Passed over here: what is given out has room for an error, and is copied with it.
+                // Passed over here: an item has room for an error, so to give one out copies as much, and such lines may be many.
                 Ok(Some(SheetLine::Plain(Line::Empty))) => {}
                 Ok(Some(line)) => return Some(Ok(NumberedLine { number, line })),
                 Ok(None) => return None,

@@ -178,7 +178,7 @@ impl<'a> Reader<'a> {
         let code = self.code_field(map)?;
         let argument = self.argument_field(map)?;
         let reads = self.list_field(map, READS)?;
-        // Chosen here: in a function of its own it would be an answer, and copied once more.
+        // Chosen here: a function of its own would hand the list out as its result, which is one copy more.
         let writes = if has_bit(map, SAME_LIST) {
             reads
         } else {

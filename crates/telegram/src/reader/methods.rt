@@ -79,7 +79,7 @@ impl<'a> Reader<'a> {
             start,
             accepted: false,
         };
-        // By a match: an answer that is held while the flag is set is copied on its way, and reading takes up to three times as long.
+        // By a match: an answer that is held while the flag is set is copied once more, and reading takes several times as long.
         match read(rewind.reader) {
             Ok(value) => {
                 rewind.accepted = true;
